@@ -27,9 +27,9 @@ fn limit_of(prompt: Prompt) -> usize
     ensures { result ≡ limit_of prompt }
 {
     match prompt {
-        Prompt::Off | Prompt::Line => 16,
         Prompt::Name => 0,
         Prompt::Code => 6,
+        _ => 16,
     }
 }
 

@@ -5,9 +5,9 @@ ghost use Rattle.bx_view.specs.Moves.{step_logical};
 ghost use Rattle.bx_view.specs.Moved.{moved};
 ghost use Rattle.bx_view.specs.Words.{step_word};
 ghost use Rattle.bx_editor.specs.Editor.{cleared, rows, with_removal};
-ghost use Rattle.bx_editor.specs.Erasing.{after_erasing, after_erasing_word, after_removing, point_before, removed_on};
+ghost use Rattle.bx_editor.specs.Erasing.{after_erasing, after_erasing_word, after_removing, erased_from, is_behind_spaces, removed_on};
 ghost use Rattle.bx_editor.specs.Functions.{goes_back, goes_on};
-ghost use Rattle.bx_editor.specs.Region.{region};
+ghost use Rattle.bx_editor.specs.Region.{line, region};
 ghost use Rattle.bx_editor.specs.declared.undo_groups.typing.Removal.{Removal};
 
 use crate::editor::Editor;
@@ -125,20 +125,48 @@ impl<D: BidiData + Drop> Editor<D> {
         self.remove_on(Removal::Erase, start, self.cursor.place)
     }
 
-    /// Removes the last point of the unit before the place; if its last character is no point, the unit. A selection is removed
-    /// in its place.
+    /// Whether there is a tab's width, and only spaces stand before the place in its line, one at least.
+    fn is_behind_spaces(&self, start: usize) -> Result<bool, OutOfMemory>
+        requires start { start ≡ (line (D.data self.now.tables) self.now.editor).0 }
+        ensures { IfOk result (λ is. is ≡ is_behind_spaces (D.data self.now.tables) self.now.editor) }
+    {
+        if self.tab_width == 0 || start >= self.cursor.place {
+            return Ok(false);
+        }
+        let before = self.document.copy(start, self.cursor.place)?;
+        Ok(before.as_str().bytes().all(|byte| byte == b' '))
+    }
+
+    /// Where what ErasePoint removes begins: at the multiple of the tab's width before the place where only spaces stand before it in its
+    /// line, else at the last point of the unit before it, or at that unit.
+    fn erased_from(&mut self) -> Result<usize, OutOfMemory>
+        ensures same { self.new ≡ self.old }
+        ensures start { IfOk result (λ o. o ≡ erased_from (D.data self.old.tables) self.old.editor) }
+        ensures range { IfOk result (λ o. IsRange self.old.editor.content.text o self.old.editor.place) }
+    {
+        let place = self.cursor.place;
+        let start = self.document.line_of(place).start;
+        if self.is_behind_spaces(start)? {
+            let width = usize::from(self.tab_width);
+            return Ok(place - ((place - start - 1) % width + 1));
+        }
+        let unit = self.back_by(Move::Logical(Logical::Back))?;
+        self.document.start_of_point(unit, place)
+    }
+
+    /// Removes the last point of the unit before the place; if its last character is no point, the unit. With a tab's width removes
+    /// spaces back to its multiple, where only spaces stand before the place. A selection is removed in its place.
     pub(crate) fn erase_point(&mut self) -> Result<(), OutOfMemory>
         ensures ok { OnOk result (self.new ≡ record self.old {
           editor = after_erasing (D.data self.old.tables) self.old.editor.typing Removal.Erase (cleared self.old.editor)
-              (point_before (D.data self.old.tables) self.old.editor) self.old.editor.place;
+              (erased_from (D.data self.old.tables) self.old.editor) self.old.editor.place;
         }) }
         ensures err { OnErr result (self.new ≡ self.old) }
     {
         if self.is_selection() {
             return self.remove_selection();
         }
-        let unit = self.back_by(Move::Logical(Logical::Back))?;
-        let start = self.document.start_of_point(unit, self.cursor.place)?;
+        let start = self.erased_from()?;
         self.remove_on(Removal::Erase, start, self.cursor.place)
     }
 

@@ -2,10 +2,11 @@
 ghost use Rattle.std.specs.Prelude.{◌≡◌, Some, true, OnErr, OnOk};
 ghost use Rattle.bx_editor.specs.Asking.{without_prompt};
 ghost use Rattle.bx_editor.specs.Editor.{after_help, after_quit, after_save, cleared, next_base, with_base, with_typing};
-ghost use Rattle.bx_editor.specs.Effects.{before};
-ghost use Rattle.bx_editor.specs.Keys.{after_any, after_asking, after_key, after_pressing, after_user, is_edit_or_move, may_refuse};
+ghost use Rattle.bx_editor.specs.Before.{before};
+ghost use Rattle.bx_editor.specs.Keys.{after_any, after_asking, after_key, after_pressing, after_user, changes_text, is_edit_or_move, may_refuse, refuses_replacing};
 ghost use Rattle.bx_editor.specs.Functions.{has_size, move_of};
 
+use crate::clicks::{clicks_behind, pressed_behind};
 use crate::editor::Editor;
 use crate::message::Message;
 use crate::moving::goal_behind;
@@ -32,7 +33,6 @@ fn move_of(key: Key, page: usize) -> Option<Move>
         Key::Right => Some(Move::Visual(Visual::Right)),
         Key::Left => Some(Move::Visual(Visual::Left)),
         Key::RowHome => Some(Move::RowHome),
-        Key::RowEnd => Some(Move::RowEnd),
         Key::PageUp => Some(Move::Rows(Vertical::Up, page)),
         Key::PageDown => Some(Move::Rows(Vertical::Down, page)),
         Key::WordLeft => Some(Move::WordTowards(Visual::Left)),
@@ -40,6 +40,19 @@ fn move_of(key: Key, page: usize) -> Option<Move>
         Key::TextStart => Some(Move::TextStart),
         Key::TextEnd => Some(Move::TextEnd),
         _ => None,
+    }
+}
+
+/// Whether a key changes the text, or begins to, outside a search and a question.
+fn changes_text(key: Key) -> bool
+    ensures { result ≡ changes_text key }
+{
+    match key {
+        Key::Insert(_) | Key::NewLine | Key::Put | Key::Cut => true,
+        Key::Erase | Key::ErasePoint | Key::Delete | Key::EraseWord | Key::DeleteWord => true,
+        Key::Undo | Key::Redo | Key::UndoRun | Key::RedoRun => true,
+        Key::Replace | Key::Name | Key::Save => true,
+        _ => false,
     }
 }
 
@@ -145,6 +158,7 @@ impl<D: BidiData + Drop> Editor<D> {
             Key::Notice(notice) => self.message = Some(Message::Notice(notice)),
             Key::PasteStart => self.start_paste(),
             Key::PasteEnd => self.finish_paste()?,
+            Key::Fill => {}
             Key::Insert(c) if self.is_pasting() => self.paste_letter(c)?,
             Key::Repaint => self.press_key(key, fault)?,
             _ if self.is_pasting() => self.press_behind_paste(key, fault)?,
@@ -164,10 +178,27 @@ impl<D: BidiData + Drop> Editor<D> {
         ensures err { OnErr result (self.new ≡ self.old) }
         ensures edits { OnErr result (is_edit_or_move key ≡ true) }
     {
-        self.press_any(key, fault)?;
+        if self.refuses_replacing(key) {
+            self.tell(Message::ViewOnly);
+        } else {
+            self.press_any(key, fault)?;
+        }
         self.goal = goal_behind(key, self.goal);
         self.cursor.soft = soft_behind(key, self.cursor.soft);
+        self.cursor.clicks = clicks_behind(key, self.cursor.clicks);
+        self.cursor.pressed = pressed_behind(key, self.cursor.pressed);
         Ok(())
+    }
+
+    /// Whether a key would begin to replace in a text that is only looked at: it neither begins nor ends anything.
+    fn refuses_replacing(&self, key: Key) -> bool
+        ensures { result ≡ refuses_replacing self.now.editor key }
+    {
+        match (key, self.prompt) {
+            (_, Prompt::Overwrite) => false,
+            (Key::Replace, _) => self.read_only,
+            _ => false,
+        }
     }
 
     /// Applies a key that the user presses: in a question, in a search, or outside both.
@@ -180,6 +211,7 @@ impl<D: BidiData + Drop> Editor<D> {
     {
         match (self.prompt, self.cursor.search_state) {
             (Prompt::Line | Prompt::Name | Prompt::Code, _) => self.press_in_question(key, fault),
+            (Prompt::File | Prompt::Overwrite, _) => self.press_in_question(key, fault),
             (_, SearchState::Off) => self.press(key, fault),
             (_, SearchState::Begun | SearchState::Typed) => self.press_in_search(key, fault),
             (_, SearchState::WithBegun | SearchState::WithTyped) => {
@@ -197,6 +229,10 @@ impl<D: BidiData + Drop> Editor<D> {
         ensures err { OnErr result (self.new ≡ self.old) }
         ensures edits { OnErr result (is_edit_or_move key ≡ true) }
     {
+        if self.read_only && changes_text(key) {
+            self.tell(Message::ViewOnly);
+            return Ok(());
+        }
         let page = self.page();
         if let Some(m) = move_of(key, page) {
             return self.moved(m);
@@ -211,9 +247,13 @@ impl<D: BidiData + Drop> Editor<D> {
             Key::NewLine => self.new_line()?,
             Key::LineUp => self.move_by_rows(Vertical::Up, 1)?,
             Key::LineDown => self.move_by_rows(Vertical::Down, 1)?,
-            Key::PageBack => self.move_by_rows(Vertical::Up, page)?,
-            Key::PageOn => self.move_by_rows(Vertical::Down, page)?,
+            Key::PageBack => self.move_by_rows(Vertical::Up, self.page_rows())?,
+            Key::PageOn => self.move_by_rows(Vertical::Down, self.page_rows())?,
+            Key::RowEnd => self.move_to_row_end()?,
             Key::Point(row, column) => self.point(row, column)?,
+            Key::Drag(row, column) => self.drag(row, column)?,
+            Key::ScrollBack => self.wheel(Vertical::Up)?,
+            Key::ScrollOn => self.wheel(Vertical::Down)?,
             Key::FindNext => self.go_to_next()?,
             Key::Undo => self.step(HistoryStep::Undo)?,
             Key::Redo => self.step(HistoryStep::Redo)?,
@@ -226,6 +266,7 @@ impl<D: BidiData + Drop> Editor<D> {
             Key::Replace => self.begin_search(SearchPurpose::Replace),
             Key::Mark => self.turn_mark(),
             Key::Select => self.select(),
+            Key::SelectAll => self.select_all(),
             Key::Cancel => self.remove_mark(),
             Key::GoTo => {
                 self.unselect();
@@ -259,6 +300,8 @@ impl<D: BidiData + Drop> Editor<D> {
                 self.reset_after_key();
             }
             Key::Repaint => self.clear_message(),
+            Key::ScrollBack => self.wheel(Vertical::Up)?,
+            Key::ScrollOn => self.wheel(Vertical::Down)?,
             _ => self.press_without_question(key, fault)?,
         }
         Ok(())

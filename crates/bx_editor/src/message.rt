@@ -115,6 +115,7 @@ impl Message {
             Message::LineCopied => "line copied",
             Message::NothingToCopy => "nothing to copy",
             Message::NothingToPut => "nothing to put",
+            Message::ViewOnly => "view only",
             Message::FromStart => "from the start",
             Message::FromEnd => "from the end",
             Message::NotFound => "not found",

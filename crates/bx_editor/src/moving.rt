@@ -1,10 +1,11 @@
 //! The keys that move the cursor, and the call that moves it to an offset.
 ghost use Rattle.std.specs.Prelude.{◌≡◌, IfOk, OnErr, OnOk};
-ghost use Rattle.bx_view.specs.Moves.{place_from};
+ghost use Rattle.bx_view.specs.Moves.{place_from, row_end};
 ghost use Rattle.bx_view.specs.Moved.{moved};
 ghost use Rattle.bx_view.specs.Places.{IsTextPlace};
 ghost use Rattle.bx_editor.specs.Editor.{rows, text_height, with_place, cleared};
-ghost use Rattle.bx_editor.specs.Effects.{after_row_move, goal_behind, goal_column};
+ghost use Rattle.bx_editor.specs.RowMoves.{after_row_end, after_row_move, goal_behind, kept_goal};
+ghost use Rattle.bx_editor.specs.Scrolling.{page_rows};
 ghost use Rattle.bx_editor.specs.Region.{unselected};
 
 use crate::editor::Editor;
@@ -12,14 +13,15 @@ use crate::picture::text_height;
 use bx_common::OutOfMemory;
 use bx_keys::Key;
 use bx_ucd::BidiData;
-use bx_view::{Move, Vertical};
+use bx_view::{Goal, Move, Vertical};
 
-/// The kept column, from 1, behind a key that the user pressed; None if that forgets it.
-pub(crate) fn goal_behind(key: Key, goal: Option<u16>) -> Option<u16>
+/// The kept column behind a key that the user pressed; None if that forgets it.
+pub(crate) fn goal_behind(key: Key, goal: Option<Goal>) -> Option<Goal>
     ensures { result ≡ goal_behind key goal }
 {
     match key {
         Key::LineUp | Key::LineDown | Key::PageBack | Key::PageOn => goal,
+        Key::RowEnd | Key::ScrollBack | Key::ScrollOn => goal,
         Key::Select | Key::Repaint => goal,
         _ => None,
     }
@@ -58,6 +60,13 @@ impl<D: BidiData + Drop> Editor<D> {
         usize::from(text_height(self.height))
     }
 
+    /// The number of rows that PageBack and PageOn move by: one row of the page before stays.
+    pub(crate) fn page_rows(&self) -> usize
+        ensures { result ≡ page_rows (text_height self.now.editor.height) }
+    {
+        (self.page() - 1).max(1)
+    }
+
     /// Applies a move to the cursor, which takes an old selection off.
     pub(crate) fn moved(&mut self, m: Move) -> Result<(), OutOfMemory>
         ensures ok { OnOk result (self.new ≡ record self.old {
@@ -72,14 +81,15 @@ impl<D: BidiData + Drop> Editor<D> {
         Ok(())
     }
 
-    /// The column that moves from row to row keep: the kept one, else the cursor's.
-    fn goal_column(&mut self) -> Result<u16, OutOfMemory>
+    /// The column or the edge of a row that moves from row to row keep: the kept one, else the row's start where the cursor is there,
+    /// else its column.
+    pub(crate) fn kept_goal(&mut self) -> Result<Goal, OutOfMemory>
         ensures same { self.new ≡ self.old }
-        ensures column { IfOk result (λ column. column ≡ goal_column (D.data self.old.tables) self.old.editor) }
+        ensures goal { IfOk result (λ goal. goal ≡ kept_goal (D.data self.old.tables) self.old.editor) }
     {
         match self.goal {
-            Some(column) => Ok(column),
-            None => self.document.column(self.cursor.place),
+            Some(goal) => Ok(goal),
+            None => self.document.kept_goal(self.cursor.place),
         }
     }
 
@@ -90,9 +100,22 @@ impl<D: BidiData + Drop> Editor<D> {
         }) }
         ensures err { OnErr result (self.new ≡ self.old) }
     {
-        let column = self.goal_column()?;
-        self.moved(Move::RowsIn(way, n, column))?;
-        self.goal = Some(column);
+        let goal = self.kept_goal()?;
+        self.moved(Move::RowsIn(way, n, goal))?;
+        self.goal = Some(goal);
+        Ok(())
+    }
+
+    /// Goes to the row's end, which moves from row to row then keep.
+    pub(crate) fn move_to_row_end(&mut self) -> Result<(), OutOfMemory>
+        ensures ok { OnOk result (self.new ≡ record self.old {
+          editor = after_row_end (unselected (cleared self.old.editor))
+              (row_end (rows (D.data self.old.tables) self.old.editor) self.old.editor.place);
+        }) }
+        ensures err { OnErr result (self.new ≡ self.old) }
+    {
+        self.moved(Move::RowEnd)?;
+        self.goal = Some(Goal::End);
         Ok(())
     }
 }

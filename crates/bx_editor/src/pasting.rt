@@ -1,6 +1,7 @@
 //! A paste: what stands between PasteStart and PasteEnd goes into the text at once.
 ghost use Rattle.std.specs.Prelude.{◌≡◌, None, is_some, option_map, string_bytes, IsOk, OnErr, OnOk};
-ghost use Rattle.bx_editor.specs.Putting.{after_paste_end, after_paste_start, after_pasted_letter, longer, paste_begun, paste_ended, pasted_with, pastes_crlf, with_paste, with_pasted, without_paste};
+ghost use Rattle.bx_editor.specs.Putting.{after_paste_end, after_paste_start, after_pasted_letter, longer, paste_begun, paste_ended, pasted_with, pastes_crlf, refuses_paste, with_paste, with_pasted, without_paste};
+ghost use Rattle.bx_editor.specs.Editor.{unpressed};
 ghost use Rattle.bx_editor.specs.Functions.{as_before, has_changes, has_pasted};
 ghost use Rattle.bx_editor.specs.Keys.{after_user, is_of_paste, needs_no_painting};
 
@@ -105,10 +106,33 @@ impl<D: BidiData + Drop> Editor<D> {
         }
     }
 
+    /// Whether nothing can be pasted into the text, which is only looked at. Allocates nothing.
+    fn refuses_paste(&self) -> bool
+        ensures { result ≡ refuses_paste self.now.editor }
+    {
+        match (self.prompt, self.cursor.search_state) {
+            (Prompt::Off, SearchState::Off) => self.read_only,
+            _ => false,
+        }
+    }
+
+    /// Forgets presses. Allocates nothing.
+    pub(crate) fn forget_presses(&mut self)
+        ensures { self.new ≡ record self.old { editor = unpressed self.old.editor } }
+    {
+        self.cursor.clicks = None;
+        self.cursor.pressed = None;
+    }
+
     /// Applies PasteStart. Allocates nothing.
     pub(crate) fn start_paste(&mut self)
         ensures { self.new ≡ record self.old { editor = after_paste_start self.old.editor } }
     {
+        self.forget_presses();
+        if self.refuses_paste() {
+            self.message = Some(Message::ViewOnly);
+            return;
+        }
         self.begin_if_free();
         self.typing = Typing::Paste;
     }
@@ -132,6 +156,7 @@ impl<D: BidiData + Drop> Editor<D> {
         self.quit_before = false;
         self.goal = None;
         self.cursor.soft = aged(self.cursor.soft);
+        self.forget_presses();
         Ok(())
     }
 
@@ -170,6 +195,7 @@ impl<D: BidiData + Drop> Editor<D> {
     {
         self.end_paste()?;
         self.typing = Typing::Off;
+        self.forget_presses();
         Ok(())
     }
 

@@ -3,10 +3,11 @@ ghost use Rattle.std.specs.Prelude.{◌≡◌, ◌*◌, ◌≤◌, ◌++◌, fal
 ghost use Rattle.bx_common.specs.Characters.{is_side};
 ghost use Rattle.bx_view.specs.Position.{IsPosition};
 ghost use Rattle.bx_editor.specs.Editor.{rows, text_height};
-ghost use Rattle.bx_editor.specs.Picture.{StandsOnItsCell, next_top, picture};
+ghost use Rattle.bx_editor.specs.Picture.{StandsOnItsCell, picture, top_behind};
 ghost use Rattle.bx_editor.specs.Status.{status_columns};
 
 use crate::editor::Editor;
+use crate::scrolling::Scroll;
 use crate::status::status_line;
 use bx_common::OutOfMemory;
 use bx_grid::{Cell, Grid, Picture};
@@ -60,19 +61,20 @@ impl<D: BidiData + Drop> Editor<D> {
         Ok(())
     }
 
-    /// Scrolls from the offset `top` to the cursor and draws the window, with the region, or the match that is shown, in the other
-    /// rendition. Returns the offset of the new top row, and the picture. It is drawn on `page`, a grid of the window's size. Rows
+    /// Scrolls from the offset `top` as a key asks for it, then to the cursor, and draws the window, with the region, or the match that
+    /// is shown, in the other rendition. Returns the offset of the new top row, and the picture. It is drawn on `page`, a grid of the window's size. Rows
     /// that `page` shows already are not written again. Once the editor has ended all is blank, with the cursor in the first cell.
     pub fn picture(
         &mut self,
         alloc: Global,
         page: Grid,
         top: usize,
+        scroll: Scroll,
     ) -> Result<(usize, Picture), OutOfMemory>
         requires height { page.height ≡ self.old.editor.height }
         requires width { page.width ≡ self.old.editor.width }
         ensures same { self.new ≡ self.old }
-        ensures top { IfOk result (λ shown. shown.0 ≡ next_top (D.data self.old.tables) self.old.editor top) }
+        ensures top { IfOk result (λ shown. shown.0 ≡ top_behind (D.data self.old.tables) self.old.editor top scroll) }
         ensures picture { IfOk result (λ shown. shown.1 ≡ picture (D.data self.old.tables) self.old.editor shown.0) }
         ensures cursor { self.old.editor.ended ≡ false
             → IfOk result (λ shown. StandsOnItsCell (D.data self.old.tables) self.old.editor shown.0 shown.1) }
@@ -85,6 +87,7 @@ impl<D: BidiData + Drop> Editor<D> {
             return Ok((top, Picture::new(page, cursor)));
         }
         let count = text_height(self.height);
+        let top = self.moved_top(top, scroll)?;
         let region = self.seen();
         let shown = self
             .document

@@ -1,8 +1,11 @@
 //! The keys that type and put in.
-ghost use Rattle.std.specs.Prelude.{◌≡◌, if◌then◌else◌, IfOk, OnErr, OnOk, encode_utf8};
+ghost use Rattle.std.specs.Prelude.{◌≡◌, ◌<◌, ◌∷◌, [], if◌then◌else◌, IfOk, OnErr, OnOk, encode_utf8, string_bytes};
 ghost use Rattle.bx_text.specs.Edits.{fits};
 ghost use Rattle.bx_editor.specs.Editor.{cleared, with_insertion};
-ghost use Rattle.bx_editor.specs.Putting.{after_character, after_new_line, after_put, has_room, is_paste, only_paste, put_in, typed, with_selection_replaced};
+ghost use Rattle.bx_editor.specs.Putting.{after_character, after_new_line, after_put, after_tab, as_line, has_room, is_paste, new_indent, new_line_end, only_paste};
+ghost use Rattle.bx_editor.specs.Putting.{put_in, put_line, typed, with_selection_replaced, yielding};
+ghost use Rattle.bx_editor.specs.undo_groups.Groups.{kind_of};
+ghost use Rattle.bx_view.specs.Places.{IsTextPlace};
 ghost use Rattle.bx_editor.specs.Region.{region};
 
 use crate::editor::Editor;
@@ -27,6 +30,13 @@ pub(crate) fn only_paste(typing: Typing) -> Typing
         Typing::Paste => Typing::Paste,
         _ => Typing::Off,
     }
+}
+
+/// A line end: CR LF, or LF.
+fn line_end(is_crlf: bool) -> &'static str
+    ensures { result.now ≡ (if is_crlf then 0xD ∷ 0xA ∷ [] else 0xA ∷ []) }
+{
+    if is_crlf { "\r\n" } else { "\n" }
 }
 
 impl<D: BidiData + Drop> Editor<D> {
@@ -107,12 +117,9 @@ impl<D: BidiData + Drop> Editor<D> {
         Ok(())
     }
 
-    /// Types a line end, as the text has it without the selection that gives way to it.
-    pub(crate) fn new_line(&mut self) -> Result<(), OutOfMemory>
-        ensures ok { OnOk result (self.new ≡ record self.old {
-          editor = after_new_line (D.data self.old.tables) self.old.editor.typing (cleared self.old.editor);
-        }) }
-        ensures err { OnErr result (self.new ≡ self.old) }
+    /// The text's line end, without the selection that gives way to it.
+    fn new_line_end(&self) -> &'static str
+        ensures { result.now ≡ new_line_end (D.data self.now.tables) self.now.editor }
     {
         let Range { start, stop } = self.region();
         let is_crlf = if self.is_selection() {
@@ -120,13 +127,79 @@ impl<D: BidiData + Drop> Editor<D> {
         } else {
             self.document.has_crlf_first()
         };
-        self.type_text(if is_crlf { "\r\n" } else { "\n" }, Kind::Separator)
+        line_end(is_crlf)
+    }
+
+    /// The part of the text that gives way to what is put in: the selection, or nothing.
+    fn yielding(&self) -> Range
+        ensures start { result.start ≡ (yielding self.now.editor).0 }
+        ensures stop { result.stop ≡ (yielding self.now.editor).1 }
+        ensures text_place { IsTextPlace (D.data self.now.tables) self.now.editor.content.text result.start }
+    {
+        if self.is_selection() {
+            return self.region();
+        }
+        Range {
+            start: self.cursor.place,
+            stop: self.cursor.place,
+        }
+    }
+
+    /// What indents a new line.
+    fn new_indent(&self) -> Result<String, OutOfMemory>
+        ensures { IfOk result (λ s. string_bytes s ≡ new_indent (D.data self.now.tables) self.now.editor) }
+    {
+        if !self.auto_indent {
+            return Ok(String::new(*self.held.allocator()));
+        }
+        self.document.indent(self.yielding().start)
+    }
+
+    /// Types a line end and the indent of the line before it.
+    pub(crate) fn new_line(&mut self) -> Result<(), OutOfMemory>
+        ensures ok { OnOk result (self.new ≡ record self.old {
+          editor = after_new_line (D.data self.old.tables) self.old.editor.typing (cleared self.old.editor);
+        }) }
+        ensures err { OnErr result (self.new ≡ self.old) }
+    {
+        let indent = self.new_indent()?;
+        let mut new = String::from_str(*self.held.allocator(), self.new_line_end())?;
+        new.push_str(indent.as_str())?;
+        self.type_text(new.as_str(), Kind::Separator)
+    }
+
+    /// Types a tab as spaces, up to the next multiple of its width.
+    fn type_spaces(&mut self, width: usize) -> Result<(), OutOfMemory>
+        requires width { width ≡ self.old.editor.tab_width }
+        requires some { 0 < width }
+        ensures ok { OnOk result (self.new ≡ record self.old {
+          editor = after_tab (D.data self.old.tables) self.old.editor.typing (cleared self.old.editor);
+        }) }
+        ensures err { OnErr result (self.new ≡ self.old) }
+    {
+        let start = self.yielding().start;
+        let units = self.document.units_in_line(start)?;
+        let spaces = " ".repeat(*self.held.allocator(), width - units % width)?;
+        self.type_text(spaces.as_str(), Kind::Blank)
     }
 
     /// Types a character.
     pub(crate) fn insert(&mut self, c: char) -> Result<(), OutOfMemory>
         ensures ok { OnOk result (self.new ≡ record self.old {
           editor = after_character (D.data self.old.tables) self.old.editor.typing (cleared self.old.editor) c;
+        }) }
+        ensures err { OnErr result (self.new ≡ self.old) }
+    {
+        if c == '\t' && self.tab_width > 0 {
+            return self.type_spaces(usize::from(self.tab_width));
+        }
+        self.type_character(c)
+    }
+
+    /// Types a character as it is.
+    fn type_character(&mut self, c: char) -> Result<(), OutOfMemory>
+        ensures ok { OnOk result (self.new ≡ record self.old {
+          editor = typed (D.data self.old.tables) self.old.editor.typing (cleared self.old.editor) (encode_utf8 c) (kind_of ((D.data self.old.tables).class c));
         }) }
         ensures err { OnErr result (self.new ≡ self.old) }
     {
@@ -137,7 +210,44 @@ impl<D: BidiData + Drop> Editor<D> {
         self.type_text(new, kind)
     }
 
-    /// Puts the held text in; if nothing is held or the text is full, sets a message instead.
+    /// The held text as a line that is put over the place's: with a line end, but over an empty line as it is.
+    fn held_line(&self) -> Result<String, OutOfMemory>
+        ensures { IfOk result (λ s. string_bytes s ≡ as_line (D.data self.now.tables) self.now.editor self.now.editor.held) }
+    {
+        let mut new = self.held.clone()?;
+        if self.document.ends_with_separator(new.as_str())
+            || self.document.is_line_empty(self.cursor.place)
+        {
+            return Ok(new);
+        }
+        new.push_str(line_end(self.document.has_crlf_first()))?;
+        Ok(new)
+    }
+
+    /// Puts a whole line over the place's; without room sets a message.
+    fn put_line(&mut self) -> Result<(), OutOfMemory>
+        ensures ok { OnOk result (self.new ≡ record self.old {
+          editor = put_line (D.data self.old.tables) (cleared self.old.editor)
+              (as_line (D.data self.old.tables) self.old.editor self.old.editor.held);
+        }) }
+        ensures err { OnErr result (self.new ≡ self.old) }
+    {
+        let new = self.held_line()?;
+        let place = self.cursor.place;
+        let start = self.document.line_of(place).start;
+        self.past.undo_groups.reserve()?;
+        let n = self.document.past_len();
+        let Some(place) = self.document.insert_before(start, new.as_str(), place)? else {
+            self.tell(Message::TextFull);
+            return Ok(());
+        };
+        self.past.edited(n, false);
+        self.cursor.move_after_edit(place);
+        self.reset_after_key();
+        Ok(())
+    }
+
+    /// Puts the held text in, a whole line over the place's; if nothing is held or the text is full, sets a message instead.
     pub(crate) fn put(&mut self) -> Result<(), OutOfMemory>
         ensures ok { OnOk result (self.new ≡ record self.old {
           editor = after_put (D.data self.old.tables) (cleared self.old.editor);
@@ -147,6 +257,9 @@ impl<D: BidiData + Drop> Editor<D> {
         if self.held.is_empty() {
             self.tell(Message::NothingToPut);
             return Ok(());
+        }
+        if self.whole_line && !self.is_selection() {
+            return self.put_line();
         }
         let empty = String::new(*self.held.allocator());
         let held = mem::replace(&mut self.held, empty);

@@ -2,11 +2,12 @@
 ghost use Rattle.std.specs.Prelude.{◌≡◌, OnErr, OnOk, slice_range};
 ghost use Rattle.bx_text.specs.Changes.{IsRange};
 ghost use Rattle.bx_editor.specs.Editor.{cleared};
-ghost use Rattle.bx_editor.specs.Region.{after_copy, after_cut, after_mark, held_message, is_at_mark, region, taken, with_held, without_mark};
+ghost use Rattle.bx_editor.specs.Region.{after_copy, after_cut, after_mark, held_message, is_at_mark, region, taken, with_held, without_hard_mark, without_mark};
 
 use crate::cursor::Soft;
 use crate::editor::Editor;
 use crate::message::Message;
+use crate::selecting::is_soft;
 use bx_common::{OutOfMemory, Range};
 use bx_ucd::BidiData;
 
@@ -85,20 +86,30 @@ impl<D: BidiData + Drop> Editor<D> {
         region
     }
 
-    /// Makes the bytes from `start` to `stop` the held text, removes the mark, and sets the message.
-    fn hold(&mut self, start: usize, stop: usize, message: Message) -> Result<(), OutOfMemory>
-        requires range { IsRange self.old.editor.content.text start stop }
+    /// Removes a mark that is no selection's.
+    fn remove_hard_mark(&mut self)
+        ensures { self.new ≡ record self.old { editor = without_hard_mark self.old.editor } }
+    {
+        if !is_soft(self.cursor.soft) {
+            self.cursor.mark = None;
+            self.cursor.soft = Soft::Off;
+        }
+    }
+
+    /// Makes a part of the text the held text, which may be a whole line, removes a mark that is no selection's, and sets the message.
+    fn hold(&mut self, part: Range, whole_line: bool, message: Message) -> Result<(), OutOfMemory>
+        requires range { IsRange self.old.editor.content.text part.start part.stop }
         ensures ok { OnOk result (self.new ≡ record self.old {
-          editor = with_held (cleared self.old.editor) (slice_range self.old.editor.content.text start stop) message;
+          editor = with_held (cleared self.old.editor) (slice_range self.old.editor.content.text part.start part.stop) whole_line message;
         }) }
         ensures err { OnErr result (self.new ≡ self.old) }
     {
-        let held = self.document.copy(start, stop)?;
+        let held = self.document.copy(part.start, part.stop)?;
         self.reset_after_key();
         self.message = held_message(self.clipboard, held.as_str(), Some(message));
         self.held = held;
-        self.cursor.mark = None;
-        self.cursor.soft = Soft::Off;
+        self.whole_line = whole_line;
+        self.remove_hard_mark();
         Ok(())
     }
 
@@ -109,16 +120,15 @@ impl<D: BidiData + Drop> Editor<D> {
         }) }
         ensures err { OnErr result (self.new ≡ self.old) }
     {
-        let Range { start, stop } = self.region();
-        if start != stop {
-            return self.hold(start, stop, Message::Copied);
+        let region = self.region();
+        if region.start != region.stop {
+            return self.hold(region, false, Message::Copied);
         }
-        let Range { start, stop } = self.document.line_of(self.cursor.place);
-        if start != stop {
-            return self.hold(start, stop, Message::LineCopied);
+        let line = self.document.line_of(self.cursor.place);
+        if line.start != line.stop {
+            return self.hold(line, true, Message::LineCopied);
         }
-        self.cursor.mark = None;
-        self.cursor.soft = Soft::Off;
+        self.remove_hard_mark();
         self.tell(Message::NothingToCopy);
         Ok(())
     }
@@ -134,10 +144,12 @@ impl<D: BidiData + Drop> Editor<D> {
         if start == stop {
             return self.copy();
         }
+        let region = self.region();
         let held = self.document.copy(start, stop)?;
         self.remove(start, stop, false)?;
         self.message = held_message(self.clipboard, held.as_str(), None);
         self.held = held;
+        self.whole_line = region.start == region.stop;
         Ok(())
     }
 }

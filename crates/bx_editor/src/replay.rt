@@ -19,6 +19,8 @@ impl<D: BidiData + Drop> Editor<D> {
         self.typing = Typing::Off;
         self.cursor.soft = aged(self.cursor.soft);
         self.goal = None;
+        self.cursor.clicks = None;
+        self.cursor.pressed = None;
     }
 
     /// Passes over a Save of a journal: it ends a search, a question and what any key ends. No undo counts as leading to the stored

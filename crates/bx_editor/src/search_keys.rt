@@ -2,7 +2,7 @@
 ghost use Rattle.std.specs.Prelude.{◌≡◌, true, OnErr, OnOk};
 ghost use Rattle.bx_view.specs.Places.{IsTextPlace};
 ghost use Rattle.bx_editor.specs.Editor.{cleared, with_typing};
-ghost use Rattle.bx_editor.specs.Effects.{before};
+ghost use Rattle.bx_editor.specs.Before.{before};
 ghost use Rattle.bx_editor.specs.Keys.{after_pressing, after_seeking, answer_of, answered_match, answered_replacement, is_edit_or_move};
 ghost use Rattle.bx_editor.specs.Origin.{asks_replacement, is_queried};
 ghost use Rattle.bx_editor.specs.Putting.{only_paste};
@@ -17,6 +17,7 @@ use bx_common::OutOfMemory;
 use bx_keys::Key;
 use bx_store::StoreFault;
 use bx_ucd::BidiData;
+use bx_view::Vertical;
 
 impl<D: BidiData + Drop> Editor<D> {
     /// Applies a line end in a search: in one for replacing it asks for the replacement, but a pasted one asks nothing; in one for
@@ -89,6 +90,8 @@ impl<D: BidiData + Drop> Editor<D> {
             Key::Replace => self.ask_replacement()?,
             Key::Quit | Key::Copy | Key::Cancel => self.give_up(),
             Key::Repaint => self.clear_message(),
+            Key::ScrollBack => self.wheel(Vertical::Up)?,
+            Key::ScrollOn => self.wheel(Vertical::Down)?,
             _ => self.press_last(key, fault)?,
         }
         Ok(())
@@ -150,6 +153,8 @@ impl<D: BidiData + Drop> Editor<D> {
             Key::Replace => self.show_match(),
             Key::Quit | Key::Copy | Key::Cancel => self.give_up(),
             Key::Repaint => self.clear_message(),
+            Key::ScrollBack => self.wheel(Vertical::Up)?,
+            Key::ScrollOn => self.wheel(Vertical::Down)?,
             _ => self.press_behind(key, fault)?,
         }
         Ok(())
@@ -195,6 +200,8 @@ impl<D: BidiData + Drop> Editor<D> {
             Key::Erase | Key::Delete | Key::ErasePoint => self.reset_after_key(),
             Key::Quit | Key::Copy | Key::Cancel => self.end_replacing(),
             Key::Repaint => self.clear_message(),
+            Key::ScrollBack => self.wheel(Vertical::Up)?,
+            Key::ScrollOn => self.wheel(Vertical::Down)?,
             _ => self.press_behind(key, fault)?,
         }
         Ok(())

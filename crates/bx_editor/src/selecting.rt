@@ -1,6 +1,7 @@
 //! Selections: the key that begins one or goes on with it, and what takes it off.
-ghost use Rattle.std.specs.Prelude.{◌≡◌};
+ghost use Rattle.std.specs.Prelude.{◌≡◌, length};
 ghost use Rattle.bx_editor.specs.Editor.{cleared};
+ghost use Rattle.bx_editor.specs.Pointing.{selecting_part};
 ghost use Rattle.bx_editor.specs.Region.{after_select, aged, is_selection, is_soft, mark_left, soft_behind, soft_left, unselected};
 
 use crate::cursor::Soft;
@@ -35,6 +36,7 @@ pub(crate) fn soft_behind(key: Key, soft: Soft) -> Soft
 {
     match key {
         Key::Select | Key::Repaint => soft,
+        Key::ScrollBack | Key::ScrollOn => soft,
         _ => aged(soft),
     }
 }
@@ -62,6 +64,15 @@ impl<D: BidiData + Drop> Editor<D> {
             (Some(_), Soft::Old) => self.cursor.soft = Soft::Fresh,
             (Some(_), _) => {}
         }
+        self.reset_after_key();
+    }
+
+    /// Selects the whole text.
+    pub(crate) fn select_all(&mut self)
+        ensures { self.new ≡ record self.old { editor = selecting_part (cleared self.old.editor) 0 (length self.old.editor.content.text) } }
+    {
+        let end = self.document.len();
+        self.select_part(0, end);
         self.reset_after_key();
     }
 
