@@ -283,22 +283,6 @@ with_top e top = record e { top = top }
 abbrev pub with_clipboard : Editor → Editor
 with_clipboard e = record e { clipboard = true }
 
--- nothing changes the text
-abbrev pub with_read_only : Editor → Editor
-with_read_only e = record e { read_only = true }
-
--- a new line is indented as the one before
-abbrev pub with_auto_indent : Editor → Editor
-with_auto_indent e = record e { auto_indent = true }
-
--- a tab that is typed becomes spaces
-abbrev pub with_tab_width : Editor → ℕ → Editor
-with_tab_width e width = record e { tab_width = width }
-
--- the file has this name, or the text has none yet
-abbrev pub with_name : Editor → List ℕ → Editor
-with_name e name = record e { name = Some name; home = nat_lt 0 (length name) }
-
 -- no press is behind, and nothing was pressed
 abbrev pub unpressed : Editor → Editor
 unpressed e = record e { clicks = None; pressed = None }

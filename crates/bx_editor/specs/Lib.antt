@@ -1,5 +1,6 @@
 pub mod Clicks
 pub mod Editor
+pub mod Settings
 pub mod Region
 pub mod Search
 pub mod Erasing

@@ -13,7 +13,6 @@ mod matches;
 pub mod message;
 mod moving;
 mod opening;
-mod options;
 mod past;
 mod pasting;
 mod picture;
@@ -30,6 +29,7 @@ mod search_keys;
 pub mod search_state;
 mod searching;
 mod selecting;
+mod settings;
 mod status;
 mod telling;
 mod undo_groups;
@@ -48,6 +48,7 @@ pub use questions::{
 };
 pub use scrolling::Scroll;
 pub use search_state::{SearchPurpose, SearchState};
+pub use settings::Settings;
 pub use undo_groups::{
     Kind, Removal, Typing, UndoGroups, begin_where_edits_begin, edit_is_of_its_run,
     redo_ends_with_a_run, undo_ends_with_a_run, undo_then_redo,
