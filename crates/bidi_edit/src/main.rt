@@ -25,7 +25,7 @@ use bx_command::{
 };
 use bx_input::FrameReader;
 use bx_recovery::{Beginning, Replayed, recover};
-use bx_session::{Recorder, Wired, WrittenJournal};
+use bx_session::{Recorder, Settings, Wired, WrittenJournal};
 use bx_store::{FileStore, MemoryStore, Store};
 use edit::{Changes, edit};
 use fault::ProgramFault;
@@ -103,6 +103,7 @@ fn beginning_of<'a>(
     options: &Options<'_>,
     files: &'a Files,
     text: Option<Vec<u8>>,
+    name: Option<String>,
 ) -> Beginning<'a> {
     Beginning {
         alloc: rt.alloc(),
@@ -112,6 +113,12 @@ fn beginning_of<'a>(
         cols: options.cols,
         direction: options.direction,
         clipboard: options.clipboard,
+        settings: Settings {
+            read_only: options.view,
+            auto_indent: options.indent,
+            tab_width: options.spaces,
+            name,
+        },
         line: options.line,
         unsaved: options.unsaved,
         keys: files.keys.as_slice(),
@@ -160,7 +167,11 @@ fn run<'a, R: Read + Drop, W: Write>(
 ) -> Result<(), ProgramFault<'a>> {
     let mut files = read_files(rt, options)?;
     let text = files.text.take();
-    let beginning = beginning_of(rt, options, &files, text);
+    let name = match options.name {
+        Some(name) => Some(String::from_str(rt.alloc(), name)?),
+        None => None,
+    };
+    let beginning = beginning_of(rt, options, &files, text, name);
     if let Some(to) = options.to {
         return recover_to(rt, options, beginning, writer, to);
     }

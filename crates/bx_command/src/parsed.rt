@@ -27,6 +27,14 @@ pub struct Options<'a> {
     pub unsaved: bool,
     /// Whether text that is copied or cut also goes out to the terminal's clipboard.
     pub clipboard: bool,
+    /// Whether the text is only looked at.
+    pub view: bool,
+    /// Whether a new line is indented as the one before.
+    pub indent: bool,
+    /// To which multiple of units a typed tab's spaces reach, from 1 to 8; 0: it is a tab.
+    pub spaces: u8,
+    /// The file's name, at most 255 characters; an empty one says that the text has none yet.
+    pub name: Option<&'a str>,
     /// The path of the journal that keys are appended to; None if none is kept.
     pub journal: Option<&'a str>,
     /// The path of the journal to replay; None if none is.

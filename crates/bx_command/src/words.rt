@@ -30,6 +30,11 @@ fn line<'a>(alloc: Global) -> Arg<'a>
     option(alloc, "line", "N").value_parser(value_parser!(u64).range(1..))
 }
 
+/// The option for a tab's spaces.
+fn spaces<'a>(alloc: Global) -> Arg<'a> {
+    option(alloc, "spaces", "N").value_parser(value_parser!(u16).range(1..=8))
+}
+
 /// The option for a text to write before the first painting.
 fn before<'a>(alloc: Global) -> Arg<'a>
     ensures { rule_of result ≡ option_rule (codes "before") }
@@ -110,6 +115,10 @@ fn with_plain<'a>(command: Command<'a>, alloc: Global) -> Result<Command<'a>, Al
         .arg(flag(alloc, "unsaved"))?
         .arg(flag(alloc, "frames"))?
         .arg(flag(alloc, "clipboard"))?
+        .arg(flag(alloc, "view"))?
+        .arg(flag(alloc, "indent"))?
+        .arg(spaces(alloc))?
+        .arg(option(alloc, "name", "NAME"))?
         .arg(direction(alloc))?
         .arg(line(alloc))?
         .arg(before(alloc))?
@@ -158,6 +167,28 @@ fn line_of(matches: &ArgMatches<'_>) -> Option<Option<u64>>
     }
 }
 
+/// A tab's spaces; 0 if none are asked for. None if the value is out of range.
+fn spaces_of(matches: &ArgMatches<'_>) -> Option<u8> {
+    match value_of(matches, "spaces") {
+        Some(text) => match text.parse::<u8>() {
+            Ok(n) if 1 <= n && n <= 8 => Some(n),
+            _ => None,
+        },
+        None => Some(0),
+    }
+}
+
+/// The most characters of a file's name.
+const LONGEST_NAME: usize = 255;
+
+/// The file's name, maybe none; None if it is too long.
+fn name_of<'a>(matches: &ArgMatches<'a>) -> Option<Option<&'a str>> {
+    match value_of(matches, "name") {
+        Some(name) if name.chars().count() > LONGEST_NAME => None,
+        name => Some(name),
+    }
+}
+
 /// The options that clap matched; None if a value is missing or out of range.
 fn options_of<'a>(matches: &ArgMatches<'a>) -> Option<Options<'a>>
     ensures { IfSome result (AreOptionsIn (rows_in matches.now)) }
@@ -172,6 +203,10 @@ fn options_of<'a>(matches: &ArgMatches<'a>) -> Option<Options<'a>>
         check: is_given(matches, "check"),
         unsaved: is_given(matches, "unsaved"),
         clipboard: is_given(matches, "clipboard"),
+        view: is_given(matches, "view"),
+        indent: is_given(matches, "indent"),
+        spaces: spaces_of(matches)?,
+        name: name_of(matches)?,
         journal: value_of(matches, "journal"),
         replay: value_of(matches, "replay"),
         to: value_of(matches, "to"),

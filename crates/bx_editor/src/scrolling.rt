@@ -2,7 +2,7 @@
 ghost use Rattle.std.specs.Prelude.{◌≡◌, IfOk, OnErr, OnOk};
 ghost use Rattle.bx_view.specs.Moves.{row_home};
 ghost use Rattle.bx_editor.specs.Before.{before};
-ghost use Rattle.bx_editor.specs.Editor.{cleared, rows};
+ghost use Rattle.bx_editor.specs.Editor.{cleared, rows, text_height, with_top};
 ghost use Rattle.bx_editor.specs.Picture.{scrolled_by};
 ghost use Rattle.bx_editor.specs.RowMoves.{after_wheel, carried, shows_place, wheel_top};
 ghost use Rattle.bx_editor.specs.Scrolling.{edits_input, fills_alone, goes_far, has_input_line, is_far, is_line_end, moved_top, scroll_by, scroll_in, scroll_of, seeks_on};
@@ -150,6 +150,19 @@ impl<D: BidiData + Drop> Editor<D> {
             Scroll::By(way, n) => self.document.top_away(top, way, n, count),
             Scroll::Fills => self.document.filled(top, count),
         }
+    }
+
+    /// Moves the top as a key asked for it, without the fewest rows that follow.
+    ///
+    /// Errors: `OutOfMemory`, and nothing has changed.
+    pub fn move_top(&mut self, scroll: Scroll) -> Result<(), OutOfMemory>
+        ensures ok { OnOk result (self.new ≡ record self.old {
+          editor = with_top self.old.editor (moved_top (D.data self.old.tables) self.old.editor self.old.editor.top scroll);
+        }) }
+        ensures err { OnErr result (self.new ≡ self.old) }
+    {
+        self.top = self.moved_top(self.top, scroll)?;
+        Ok(())
     }
 
     /// Notes the row that the next picture shows first behind a key, as its painting does, and draws nothing.

@@ -5,6 +5,7 @@ ghost use Rattle.bx_common.specs.Characters.{is_side};
 
 use bx_command::UnicodeFiles;
 use bx_common::Base;
+use bx_session::Settings;
 use std::alloc::Global;
 
 /// Everything that a session starts from.
@@ -23,6 +24,8 @@ pub struct Beginning<'a> {
     pub direction: Base,
     /// Whether text that is copied or cut goes out to the terminal's clipboard too.
     pub clipboard: bool,
+    /// How the session works.
+    pub settings: Settings,
     /// The line that the cursor is sent to, from 1; None to leave it at the text's start.
     pub line: Option<u64>,
     /// Whether the text counts as changed from the start.

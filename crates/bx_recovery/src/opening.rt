@@ -36,7 +36,9 @@ pub fn open(beginning: Beginning<'_>) -> Result<Session<Tables>, RecoveryFault>
     let tables = beginning.unicode.tables(alloc)?;
     let text = beginning.text.unwrap_or(Vec::new(alloc));
     let start = offset_of(text.as_slice(), beginning.line);
+    let settings = beginning.settings;
     let mut session = Session::open(text, tables, rows, cols, direction)?;
+    session.set(settings)?;
     prepare(&mut session, clipboard, start, unsaved)?;
     Ok(session)
 }

@@ -6,7 +6,9 @@ use Rattle.bx_ucd.specs.Data.{Data}
 use Rattle.bx_editor.specs.declared.questions.answers.Prompt.{Prompt}
 use Rattle.bx_editor.specs.declared.questions.answers.Prompt.TheVariants as prompts
 use Rattle.bx_view.specs.Moves.{place_from}
-use Rattle.bx_editor.specs.Editor.{Editor, cleared, rows, with_place}
+use Rattle.bx_editor.specs.declared.scrolling.Scroll.{Scroll}
+use Rattle.bx_editor.specs.Editor.{Editor, cleared, rows, with_place, with_top}
+use Rattle.bx_editor.specs.Scrolling.{moved_top, scroll_of}
 use Rattle.bx_editor.specs.declared.search_state.SearchState.{SearchState}
 use Rattle.bx_editor.specs.declared.search_state.SearchState.TheVariants.{Off}
 use Rattle.bx_editor.specs.Keys.{after_key}
@@ -28,11 +30,19 @@ after_replayed d prompt search_state e key = after_key d None e key
 abbrev pub replayed_on : Data → Editor → Key → Editor
 replayed_on d e key = let over = paste_ended d e in after_replayed d over.prompt over.search_state e key
 
--- The editor after keys of a journal in sequence. Before each of them it scrolls to the cursor, as the painting before that key did in
--- the session, since a key can point at a row of the picture.
+-- the editor with its top moved as a key asked for it
+abbrev pub moved_by : Data → Scroll → Editor → Editor
+moved_by d scroll e = with_top e (moved_top d e e.top scroll)
+
+-- The editor after a key of a journal. Before it, it scrolls to the cursor, as the painting before that key did in the session, since
+-- a key can point at a row of the picture; and behind it, the top moves as that key asks for.
+abbrev pub scrolled_on : Data → Editor → Key → Editor
+scrolled_on d e key = moved_by d (scroll_of e key) (replayed_on d e key)
+
+-- the editor after keys of a journal in sequence
 abbrev pub after_all_replayed : Data → Editor → List Key → Editor
 after_all_replayed d e [] = e
-after_all_replayed d e (key ∷ keys) = after_all_replayed d (replayed_on d (scrolled d e) key) keys
+after_all_replayed d e (key ∷ keys) = after_all_replayed d (scrolled_on d (scrolled d e) key) keys
 
 -- the session after a key of a journal, in these states of question and search
 abbrev pub session_after_replayed : Data → Prompt → SearchState → Session → Key → Session
@@ -47,10 +57,15 @@ session_replayed_on d s key = let over = paste_ended d s.editor in session_after
 abbrev pub session_scrolled : Data → Session → Session
 session_scrolled d s = record s { editor = scrolled d s.editor }
 
+-- the session with its top moved as a key asked for it
+abbrev pub session_moved_by : Data → Scroll → Session → Session
+session_moved_by d scroll s = record s { editor = moved_by d scroll s.editor }
+
 -- the session after the key of a journal's byte, if it completes one
 abbrev pub after_replayed_key : Data → Session → Option Key → Session
 after_replayed_key d s None = s
-after_replayed_key d s (Some key) = session_replayed_on d (session_scrolled d s) key
+after_replayed_key d s (Some key) =
+    let before = session_scrolled d s in session_moved_by d (scroll_of before.editor key) (session_replayed_on d before key)
 
 -- the byte's key is applied, and a painting is owed
 abbrev pub after_replay : Data → Session → ℕ → Session

@@ -15,7 +15,12 @@ use Rattle.bx_editor.specs.Region.{clip_of}
 use Rattle.bx_editor.specs.Editor.{Editor, at_start, with_size}
 use Rattle.bx_editor.specs.Editor as editors
 use Rattle.bx_editor.specs.Keys.{after_key, asks_for_whole, needs_no_painting, is_save, may_refuse}
-use Rattle.bx_editor.specs.Picture.{picture, scrolled}
+use Rattle.bx_editor.specs.declared.scrolling.Scroll.{Scroll}
+use Rattle.bx_editor.specs.declared.scrolling.Scroll.TheVariants.{Least}
+use Rattle.bx_editor.specs.Picture.{picture, scrolled_by}
+use Rattle.bx_editor.specs.Scrolling.{scroll_of}
+use Rattle.bx_editor.specs.Settings.{SettingsState}
+use Rattle.bx_editor.specs.Settings as editor_settings
 use Rattle.bx_editor.specs.Putting.{paste_ended}
 
 -- a session, without Unicode's tables
@@ -53,9 +58,13 @@ with_picture s e new = record s {
   pending = s.pending ++ painting s.known new;
 }
 
+-- scrolls as a key asks for it and then to the cursor, and paints the picture
+abbrev pub with_painting_by : Data → Scroll → Session → Session
+with_painting_by d scroll s = let e = scrolled_by d scroll s.editor in with_picture s e (picture_of d e)
+
 -- scrolls to the cursor and paints the picture
 abbrev pub with_painting : Data → Session → Session
-with_painting d s = let e = scrolled d s.editor in with_picture s e (picture_of d e)
+with_painting d s = with_painting_by d Least s
 
 -- the painting was refused
 abbrev pub with_painting_owed : Session → Session
@@ -67,8 +76,8 @@ then_clip bytes None = bytes
 then_clip bytes (Some text) = bytes ++ clip_bytes text
 
 -- paints the picture, and sends a text to the clipboard, if there is one, after the painting: one growth of the pending bytes
-abbrev pub with_painting_and_clip : Data → Session → Option (List ℕ) → Session
-with_painting_and_clip d s clip = let new = with_painting d s in record new { pending = then_clip new.pending clip }
+abbrev pub with_painting_and_clip : Data → Scroll → Session → Option (List ℕ) → Session
+with_painting_and_clip d scroll s clip = let new = with_painting_by d scroll s in record new { pending = then_clip new.pending clip }
 
 -- ---- opening
 
@@ -132,15 +141,20 @@ abbrev pub clip_after : Editor → Option Key → Option (List ℕ)
 clip_after e None = None
 clip_after e (Some key) = clip_of e key
 
--- the picture is painted after a key that is applied, and what the key sends to the clipboard follows
-abbrev pub painted_after : Data → Session → Option Key → Session
-painted_after d s key = with_painting_and_clip d s (clip_after s.editor key)
+-- how a key that comes to this editor, if one comes, moves the top
+abbrev pub scroll_behind : Editor → Option Key → Scroll
+scroll_behind e None = Least
+scroll_behind e (Some key) = scroll_of e key
+
+-- the picture is painted after a key that is applied, scrolled as it asks for, and what the key sends to the clipboard follows
+abbrev pub painted_after : Data → Scroll → Session → Option Key → Session
+painted_after d scroll s key = with_painting_and_clip d scroll s (clip_after s.editor key)
 
 -- after a byte that was not refused
 abbrev pub after_byte : Data → Option StoreFault → Session → ℕ → Session
 after_byte d fault s b =
     let new = unpainted_after_byte d fault s b in
-    if is_painted s b then painted_after d new (key_of_byte s b) else new
+    if is_painted s b then painted_after d (scroll_behind s.editor (key_of_byte s b)) new (key_of_byte s b) else new
 
 -- after a byte whose painting was refused
 abbrev pub owing_after_byte : Data → Option StoreFault → Session → ℕ → Session
@@ -156,6 +170,11 @@ with_clipboard s = record s { editor = editors.with_clipboard s.editor }
 abbrev pub clipboard_if : Bool → Session → Session
 clipboard_if true s = with_clipboard s
 clipboard_if false s = s
+
+-- the session works by these settings, which are told before anything is sent: the first picture is queued anew
+abbrev pub with_settings : Data → Session → SettingsState → Session
+with_settings d s settings =
+    with_painting d (record s { editor = editor_settings.with_settings s.editor settings; painted = None; known = None; pending = [] })
 
 -- ---- a told size
 

@@ -6,14 +6,14 @@ ghost use Rattle.bx_keys.specs.Decoder.{HasSides};
 ghost use Rattle.bx_editor.specs.Keys as keys;
 ghost use Rattle.bx_store.specs.declared.store.StoreFault.{StoreFault};
 ghost use Rattle.bx_session.specs.Painting.{FeedAppends, FeedPaints, ToldPaints};
-ghost use Rattle.bx_session.specs.Session.{SaveEnds, StoreAfter, after_spending, is_painted, is_save_byte, key_of_byte, may_refuse_key, needs_painting, session_after_key, store_state, text_to_save, unpainted_after_byte, unpainted_after_told};
+ghost use Rattle.bx_session.specs.Session.{SaveEnds, StoreAfter, after_spending, is_painted, is_save_byte, key_of_byte, may_refuse_key, needs_painting, scroll_behind, session_after_key, store_state, text_to_save, unpainted_after_byte, unpainted_after_told};
 ghost use Rattle.bx_session.specs.Feeding.{Feeds, ToldBy, is_applied, is_idle};
 
 use crate::saving::save_pieces;
 use crate::session::Session;
 use crate::status::{Refused, Status};
 use bx_common::is_side;
-use bx_editor::Editor;
+use bx_editor::{Editor, Scroll};
 use bx_keys::Key;
 use bx_store::{Store, StoreFault};
 use bx_ucd::BidiData;
@@ -31,6 +31,16 @@ fn is_size(height: u16, width: u16) -> bool
     ensures { result ≡ is_size height width }
 {
     is_side(height) && is_side(width)
+}
+
+/// How a key, if one comes, moves the top.
+fn scroll_behind<D: BidiData + Drop>(editor: &Editor<D>, key: Option<Key>) -> Scroll
+    ensures { result ≡ scroll_behind editor.now.editor key }
+{
+    match key {
+        Some(key) => editor.scroll_of(key),
+        None => Scroll::Least,
+    }
 }
 
 /// Whether a key may change the picture; without a key it stays.
@@ -104,18 +114,23 @@ impl<D: BidiData + Drop> Session<D> {
         self.painting_owed || needs_painting(&self.editor, key)
     }
 
-    /// Decodes a byte and applies the key that it completes. Returns whether to paint, and the key.
+    /// Decodes a byte and applies the key that it completes. Returns whether to paint, how the key moves the top, and the key.
     ///
     /// Errors: `Edit` if memory runs out, only for a key that edits, moves, copies, finds or ends a paste; the byte is consumed, and
     /// nothing else has changed.
-    fn enter<S: Store>(&mut self, byte: u8, store: &mut S) -> Result<(bool, Option<Key>), Refused>
+    fn enter<S: Store>(
+        &mut self,
+        byte: u8,
+        store: &mut S,
+    ) -> Result<(bool, Scroll, Option<Key>), Refused>
         ensures after_byte { (fault : Option StoreFault)
             × StoreAfter (is_applied result && is_save_byte self.old.session byte) fault
             (text_to_save (D.data self.old.tables) self.old.session.editor)
             (store_state S.contents S.faults store.old) (store_state S.contents S.faults store.new)
             × OnOk result (self.new ≡ record self.old { session = unpainted_after_byte (D.data self.old.tables) fault self.old.session byte }) }
         ensures prompts { IfOk result (λ entered. entered.0 ≡ is_painted self.old.session byte) }
-        ensures key { IfOk result (λ entered. entered.1 ≡ key_of_byte self.old.session byte) }
+        ensures scroll { IfOk result (λ entered. entered.1 ≡ scroll_behind self.old.session.editor (key_of_byte self.old.session byte)) }
+        ensures key { IfOk result (λ entered. entered.2 ≡ key_of_byte self.old.session byte) }
         ensures untouched { is_save_byte self.old.session byte ≡ false → store.new ≡ store.old }
         ensures err { OnErr result (self.new ≡ record self.old { session = after_spending self.old.session byte }) }
         ensures edits { OnErr result (may_refuse_key self.old.session.editor (key_of_byte self.old.session byte) ≡ true) }
@@ -123,16 +138,17 @@ impl<D: BidiData + Drop> Session<D> {
     {
         let key = self.decode(byte);
         let prompts = self.asks_for_painting(key);
+        let scroll = scroll_behind(&self.editor, key);
         match key {
             Some(Key::Save) => {
                 self.save(store)?;
-                Ok((prompts, key))
+                Ok((prompts, scroll, key))
             }
             Some(pressed) => {
                 self.press(pressed, None)?;
-                Ok((prompts, key))
+                Ok((prompts, scroll, key))
             }
-            None => Ok((prompts, key)),
+            None => Ok((prompts, scroll, key)),
         }
     }
 
@@ -157,11 +173,11 @@ impl<D: BidiData + Drop> Session<D> {
         ensures idle { is_idle self.old.session byte ≡ true → IsOk result }
         ensures unchanged { is_idle self.old.session byte ≡ true → self.new.session ≡ after_spending self.old.session byte }
     {
-        let (prompts, key) = self.enter(byte, store)?;
+        let (prompts, scroll, key) = self.enter(byte, store)?;
         if !prompts {
             return Ok(self.status());
         }
-        self.paint_after(key)?;
+        self.paint_after(key, scroll)?;
         Ok(self.status())
     }
 

@@ -20,7 +20,7 @@ mod status;
 mod wired;
 
 pub use action::{Action, ActionBytes};
-pub use bx_editor::{OpenError, Prompt, SearchPurpose, SearchState};
+pub use bx_editor::{OpenError, Prompt, SearchPurpose, SearchState, Settings};
 pub use device::{Device, DeviceFault};
 pub use end::{End, RunFault};
 pub use journal::{Journal, JournalFault, NoJournal, Recorder, WrittenJournal};

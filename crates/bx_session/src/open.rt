@@ -1,19 +1,36 @@
 //! Opening a session.
 
-ghost use Rattle.std.specs.Prelude.{◌≡◌, ◌≤◌, [], true, None, IfErr, IfOk, IsUtf8, OnOk, length};
+ghost use Rattle.std.specs.Prelude.{◌≡◌, ◌≤◌, [], true, None, IfErr, IfOk, IsUtf8, OnErr, OnOk, length};
 ghost use Rattle.bx_common.specs.Characters.{largest_text};
 ghost use Rattle.bx_grid.specs.Picture.{is_size};
 ghost use Rattle.bx_editor.specs.Editor.{Causes};
 ghost use Rattle.bx_session.specs.Painting.{QueuesPicture};
-ghost use Rattle.bx_session.specs.Session.{at_opening};
+ghost use Rattle.bx_session.specs.Session.{at_opening, with_settings};
 
 use crate::session::Session;
+use crate::status::Refused;
 use bx_common::Base;
-use bx_editor::{Editor, OpenError};
+use bx_editor::{Editor, OpenError, Settings};
 use bx_keys::Decoder;
 use bx_ucd::BidiData;
 
 impl<D: BidiData + Drop> Session<D> {
+    /// Works by these settings from the first picture on, which is queued anew. To be called before anything is sent.
+    ///
+    /// Errors: `Paint` if memory runs out: the painting is owed.
+    pub fn set(&mut self, settings: Settings) -> Result<(), Refused>
+        ensures tables { self.new.tables ≡ self.old.tables }
+        ensures ok { OnOk result (self.new.session ≡ with_settings (D.data self.old.tables) self.old.session settings) }
+        ensures refused { OnErr result (result ≡ Err Refused.Paint) }
+    {
+        self.editor.set(settings);
+        self.queue.clear();
+        self.taken = 0;
+        self.painted = None;
+        self.is_known = false;
+        self.paint()
+    }
+
     /// Opens a file's bytes in a window of `height` rows and `width` columns, and queues the first picture, painted whole.
     /// An error drops the bytes and the tables.
     ///

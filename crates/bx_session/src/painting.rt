@@ -14,7 +14,7 @@ ghost use Rattle.bx_session.specs.Feeding.{known_if};
 use crate::session::Session;
 use crate::status::Refused;
 use bx_common::OutOfMemory;
-use bx_editor::Editor;
+use bx_editor::{Editor, Scroll};
 use bx_grid::{Grid, Picture};
 use bx_keys::Key;
 use bx_paint::{changes_into, clip_into, whole_into};
@@ -140,16 +140,16 @@ impl<D: BidiData + Drop> Session<D> {
         ensures err { OnErr result (self.new.session ≡ with_painting_owed self.old.session) }
         ensures memory { OnErr result (result ≡ Err Refused.Paint) }
     {
-        self.paint_after(None)
+        self.paint_after(None, Scroll::Least)
     }
 
-    /// Scrolls to the cursor and queues the bytes that paint the picture after a key, the last that was applied, and then the clip of
-    /// what the key sends to the clipboard.
+    /// Scrolls as a key asked for it and then to the cursor, and queues the bytes that paint the picture after the key, the last that was
+    /// applied, and then the clip of what the key sends to the clipboard.
     ///
     /// Errors: `Paint` if memory runs out: top and queue are unchanged, and the painting is owed. The clip never comes.
-    pub(crate) fn paint_after(&mut self, key: Option<Key>) -> Result<(), Refused>
+    pub(crate) fn paint_after(&mut self, key: Option<Key>, scroll: Scroll) -> Result<(), Refused>
         ensures tables { self.new.tables ≡ self.old.tables }
-        ensures ok { OnOk result (self.new.session ≡ painted_after (D.data self.old.tables) self.old.session key) }
+        ensures ok { OnOk result (self.new.session ≡ painted_after (D.data self.old.tables) scroll self.old.session key) }
         ensures paints { OnOk result (QueuesPicture (D.data self.old.tables) self.old.session.pending
             self.old.session.known self.new.session) }
         ensures appends { OnOk result (AppendsPainting (D.data self.old.tables) self.old.session.pending
@@ -164,7 +164,7 @@ impl<D: BidiData + Drop> Session<D> {
             return Err(Refused::Paint);
         };
         let top = self.editor.top();
-        let Ok((top, picture)) = self.editor.picture(alloc, page, top) else {
+        let Ok((top, picture)) = self.editor.picture(alloc, page, top, scroll) else {
             return Err(Refused::Paint);
         };
         let clip = clip_after(&self.editor, key);

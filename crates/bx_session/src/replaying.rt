@@ -5,13 +5,13 @@ ghost use Rattle.bx_session.specs.Session.{after_spending, key_of_byte, may_refu
 ghost use Rattle.bx_keys.specs.Decoder.{HasSides};
 ghost use Rattle.bx_editor.specs.Keys.{may_refuse};
 ghost use Rattle.bx_editor.specs.Putting.{paste_ended};
-ghost use Rattle.bx_session.specs.Replaying.{after_replay, after_replayed_key, at_replay_end, at_unscrolled_end, session_after_replayed, session_replayed_on, session_scrolled};
+ghost use Rattle.bx_session.specs.Replaying.{after_replay, after_replayed_key, at_replay_end, at_unscrolled_end, session_after_replayed, session_moved_by, session_replayed_on, session_scrolled};
 ghost use Rattle.bx_store.specs.Faults.{with_fault};
 
 use crate::saving::{is_text, save_pieces};
 use crate::session::Session;
 use crate::status::Refused;
-use bx_editor::{Prompt, SearchState};
+use bx_editor::{Prompt, Scroll, SearchState};
 use bx_keys::Key;
 use bx_store::{Store, StoreFault};
 use bx_ucd::BidiData;
@@ -90,15 +90,31 @@ impl<D: BidiData + Drop> Session<D> {
         ensures err { OnErr result (self.new ≡ self.old) }
         ensures refused { OnErr result (result ≡ Err Refused.Paint) }
     {
-        match self.editor.scroll() {
+        match self.editor.scroll(Scroll::Least) {
             Ok(()) => Ok(()),
             Err(_) => Err(Refused::Paint),
         }
     }
 
-    /// Scrolls to the cursor, as the painting before this key did in the session, and applies the key of a journal.
+    /// Moves the top as a key asked for it.
     ///
-    /// Errors: `Edit` and `Paint` if memory runs out for the key and for scrolling; nothing has changed.
+    /// Errors: `Paint` if memory runs out; nothing has changed.
+    fn move_top(&mut self, scroll: Scroll) -> Result<(), Refused>
+        ensures ok { OnOk result (self.new ≡ record self.old { session = session_moved_by (D.data self.old.tables) scroll self.old.session }) }
+        ensures err { OnErr result (self.new ≡ self.old) }
+        ensures refused { OnErr result (result ≡ Err Refused.Paint) }
+    {
+        match self.editor.move_top(scroll) {
+            Ok(()) => Ok(()),
+            Err(_) => Err(Refused::Paint),
+        }
+    }
+
+    /// Scrolls to the cursor, as the painting before this key did in the session, applies the key of a journal, and moves the top as the
+    /// key asks for.
+    ///
+    /// Errors: `Edit` and `Paint` if memory runs out for the key and for scrolling before it; nothing has changed. `Paint` too if it runs
+    /// out for moving the top: the key is applied, and the top stays.
     fn scroll_and_press(&mut self, key: Key) -> Result<(), Refused>
         requires sides { HasSides key }
         ensures after_key { OnOk result (self.new ≡ record self.old {
@@ -110,8 +126,9 @@ impl<D: BidiData + Drop> Session<D> {
     {
         let top = self.editor.top();
         self.scroll()?;
+        let scroll = self.editor.scroll_of(key);
         match self.press_again(key) {
-            Ok(()) => Ok(()),
+            Ok(()) => self.move_top(scroll),
             Err(refused) => {
                 self.editor.set_top(top);
                 Err(refused)
