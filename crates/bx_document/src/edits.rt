@@ -60,7 +60,12 @@ pub(crate) fn wrapped(
 
 impl<D: BidiData + Drop> Document<D> {
     /// The place after a pending edit that replaces the bytes from `start` to `stop` with `new`.
-    pub(crate) fn place_after(&mut self, start: usize, stop: usize, new: &str) -> Result<usize, OutOfMemory>
+    pub(crate) fn place_after(
+        &mut self,
+        start: usize,
+        stop: usize,
+        new: &str,
+    ) -> Result<usize, OutOfMemory>
         requires range { IsRange self.old.document.content.text start stop }
         requires fits { fits self.old.document.content.text start stop new.now ≡ true }
         ensures same { self.new ≡ self.old }

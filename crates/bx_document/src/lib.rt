@@ -20,6 +20,7 @@ mod place_level;
 mod points;
 mod region;
 mod row_cache;
+mod scrolled;
 mod searching;
 mod separating;
 mod shown;

@@ -5,6 +5,8 @@ use Rattle.bx_ucd.specs.Data.{Data}
 use Rattle.bx_paragraph.specs.declared.moves.Visual.{Visual}
 use Rattle.bx_paragraph.specs.BodyRows.{last_of, last_offset}
 use Rattle.bx_paragraph.specs.Slots.{beside, entry, or_else, reading_end, reading_start, reads_on}
+use Rattle.bx_view.specs.declared.moves.Goal.{Goal}
+use Rattle.bx_view.specs.declared.moves.Goal.TheVariants as goals
 use Rattle.bx_view.specs.declared.moves.Logical.{Logical}
 use Rattle.bx_view.specs.declared.moves.Logical.TheVariants.{Back, Forward}
 use Rattle.bx_view.specs.declared.moves.Vertical.{Vertical}
@@ -62,11 +64,17 @@ step_visual w rows side place =
 abbrev pub entry_in : ℕ → TextRow → ℕ → Option ℕ
 entry_in w r column = place_in r (entry w r.row column)
 
--- from a place to row `k`, which is entered in a column; in the place's own row, the place itself
-abbrev pub to_row : ℕ → List TextRow → ℕ → ℕ → ℕ → ℕ
-to_row w rows column place k = elim (k == row_of rows place) [
+-- the place at which a row is entered: in a column, at its first place, or at its end as RowEnd's
+abbrev pub goal_in : ℕ → TextRow → Goal → Option ℕ
+goal_in w r (goals.Column column) = entry_in w r column
+goal_in w r goals.Start = Some (first r)
+goal_in w r goals.End = Some (r.start + last_of r.row)
+
+-- from a place to row `k`, which is entered by a goal; in the place's own row, the place itself
+abbrev pub to_row : ℕ → List TextRow → Goal → ℕ → ℕ → ℕ
+to_row w rows goal place k = elim (k == row_of rows place) [
   | true ↦ place
-  | false ↦ unwrap_or (entry_in w (row_at rows k) column) place
+  | false ↦ unwrap_or (goal_in w (row_at rows k) goal) place
 ]
 
 -- the number of the row `n` rows above or below row `k` of `count` rows, at most the first or the last
@@ -74,21 +82,29 @@ abbrev pub row_away : ℕ → Vertical → ℕ → ℕ → ℕ
 row_away count Up n k = k - n
 row_away count Down n k = min (k + n) (count - 1)
 
--- `n` rows up or down, into a column
-abbrev pub rows_away : ℕ → List TextRow → Vertical → ℕ → ℕ → ℕ → ℕ
-rows_away w rows way n column place = to_row w rows column place (row_away (length rows) way n (row_of rows place))
+-- `n` rows up or down, by a goal
+abbrev pub rows_away : ℕ → List TextRow → Vertical → ℕ → Goal → ℕ → ℕ
+rows_away w rows way n goal place = to_row w rows goal place (row_away (length rows) way n (row_of rows place))
 
--- Up and Down: the previous or the next row, in the column of the place's cell
+-- `n` rows up or down, in the column of the place's cell
+abbrev pub rows_straight : ℕ → List TextRow → Vertical → ℕ → ℕ → ℕ
+rows_straight w rows way n place = rows_away w rows way n (goals.Column (cell_of w rows place)) place
+
+-- Up and Down: the previous or the next row
 abbrev pub vertical : ℕ → List TextRow → Vertical → ℕ → ℕ
-vertical w rows way place = rows_away w rows way 1 (cell_of w rows place) place
+vertical w rows way place = rows_straight w rows way 1 place
 
--- PageUp and PageDown: `t` rows, the number of visible ones, in the same column
+-- PageUp and PageDown: `t` rows, the number of visible ones
 abbrev pub page : ℕ → List TextRow → Vertical → ℕ → ℕ → ℕ
-page w rows way t place = rows_away w rows way t (cell_of w rows place) place
+page w rows way t place = rows_straight w rows way t place
 
 -- RowHome: the row's first offset
 abbrev pub row_home : List TextRow → ℕ → ℕ
 row_home rows place = first (row_at rows (row_of rows place))
+
+-- the goal that is kept from a place on: the start where the place is its row's first one, else the column of its cell
+abbrev pub goal_of : ℕ → List TextRow → ℕ → Goal
+goal_of w rows place = elim (row_home rows place == place) [ true ↦ goals.Start | false ↦ goals.Column (cell_of w rows place) ]
 
 -- RowEnd: the paragraph's end in its last row, else the start of the row's last unit
 abbrev pub row_end : List TextRow → ℕ → ℕ

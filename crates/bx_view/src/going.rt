@@ -14,7 +14,7 @@ use bx_ucd::BidiData;
 use unicode_segmentation::UnicodeSegmentation;
 
 /// The offset at which the unit at an offset of a body ends.
-fn unit_end(body: &str, at: usize) -> usize
+pub(crate) fn unit_end(body: &str, at: usize) -> usize
     requires start { IsCharBoundary body.now at }
     requires some { at < length body.now }
     ensures later { at < result }

@@ -5,14 +5,20 @@ mod cursor;
 mod placed;
 mod pointing;
 mod row_ends;
+mod shown_place;
+mod stretch;
 mod text_order;
+mod unit_kind;
 mod visual;
 mod word_moves;
 mod words;
 
 use bx_paragraph::Visual;
+pub(crate) use by_rows::{rows_down, rows_up};
 pub use cursor::moved;
 pub use pointing::pointed_at;
+pub use shown_place::{kept_goal, to_shown};
+pub use stretch::{stretch_at, unit_at};
 
 /// A direction in text order.
 #[derive(Clone, Copy)]
@@ -49,14 +55,14 @@ pub enum Move {
     /// Up or down by a number of rows, at most to the first or the last row: to the start of the unit that covers the
     /// cursor's column, else to the row's reading end.
     Rows(Vertical, usize),
-    /// Up or down as `Rows`, but to the unit that covers the given column, from 1, instead of the cursor's.
-    RowsIn(Vertical, usize, u16),
+    /// Up or down as `Rows`, but the row is entered by the goal.
+    RowsIn(Vertical, usize, Goal),
     /// To the row's first offset.
     RowHome,
     /// To the paragraph's end in its last row, else to the start of the row's last unit.
     RowEnd,
     /// Forward to the next start of a word or end of a body, back to the previous start of a word or a body. A word is a run
-    /// of units whose first characters have classes of letters, numbers, marks or joiners.
+    /// of letters, digits, marks and joiners, with signs that stand between two letters or two digits.
     Word(Logical),
     /// By a word toward a side: forward if the paragraph is read toward it, else back.
     WordTowards(Visual),

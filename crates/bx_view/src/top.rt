@@ -26,7 +26,7 @@ pub struct Located {
 impl View {
     /// The top row, nearest to the one that begins at the offset `old`, from which `t` rows include the row `at`; and the number
     /// of rows from it down to `at`.
-    fn top_above<D: BidiData>(
+    pub(crate) fn top_above<D: BidiData>(
         &mut self,
         text_ref: &TextRef<'_, D>,
         at: RowAt,

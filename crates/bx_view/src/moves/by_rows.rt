@@ -1,12 +1,14 @@
 //! Moves from row to row.
 ghost use Rattle.std.specs.Prelude.{◌≡◌, ℕ, ◌+◌, ◌-◌, IfOk, length, min};
-ghost use Rattle.bx_view.specs.Moves.{row_away, rows_away};
+ghost use Rattle.bx_view.specs.Moves.{goal_in, row_away, row_home, rows_away, rows_straight, to_row};
+ghost use Rattle.bx_view.specs.Placed.{columns, placed};
 ghost use Rattle.bx_view.specs.TextRef.{IsViewBy, Keeps, Stands, StandsOn, rows};
-ghost use Rattle.bx_view.specs.TextRows.{cell_of};
+ghost use Rattle.bx_view.specs.TextRows.{first as first_of};
 
 use crate::moves::placed::entry;
-use crate::{RowAt, TextRef, Vertical, View};
+use crate::{Goal, RowAt, TextRef, Vertical, View, last_place};
 use bx_common::OutOfMemory;
+use bx_paragraph::LayoutRowRef;
 use bx_ucd::BidiData;
 
 /// The row `count` rows above `at`, or the text's first row if there are fewer.
@@ -84,30 +86,73 @@ fn row_away<D: BidiData>(
     }
 }
 
-/// The place after a move of `count` rows up or down, at most to the text's first or last row. The row is entered in `column`,
-/// from 1; if it is the place's own, the place stays.
+/// The place at which a row is entered by a goal, if it has one.
+fn goal_in<D: BidiData>(
+    row: &LayoutRowRef<'_, '_, D>,
+    first: usize,
+    goal: Goal,
+) -> Result<Option<usize>, OutOfMemory>
+    requires { first ≡ first_of (placed row.now) }
+    ensures { IfOk result (λ o. o ≡ goal_in (columns row.now) (placed row.now) goal) }
+{
+    match goal {
+        Goal::Column(column) => {
+            // The proof compares the place, so it has a name.
+            let entry = entry(row, column)?;
+            Ok(entry)
+        }
+        Goal::Start => Ok(Some(first)),
+        Goal::End => {
+            let last = last_place(row)?;
+            Ok(Some(last))
+        }
+    }
+}
+
+/// From a place to the row `there`, which is entered by a goal; if it is the place's own, whose first offset is `own`, the place
+/// stays.
+pub(crate) fn to_row<D: BidiData>(
+    view: &View,
+    text_ref: &TextRef<'_, D>,
+    goal: Goal,
+    place: usize,
+    own: usize,
+    there: RowAt,
+) -> Result<usize, OutOfMemory>
+    requires row { Stands text_ref.now view.now there }
+    requires own { own ≡ row_home (rows text_ref.now view.now) place }
+    ensures place { (n : ℕ) → StandsOn text_ref.now view.now there n
+        → IfOk result (λ o. o ≡ to_row view.now.w (rows text_ref.now view.now) goal place n) }
+{
+    // A row is known by its first offset: no other begins there.
+    let first = view.first_in(text_ref, there);
+    if first == own {
+        return Ok(place);
+    }
+    let entry = goal_in(&view.row(text_ref, there), first, goal)?;
+    Ok(entry.unwrap_or(place))
+}
+
+/// The place after a move of `count` rows up or down, at most to the text's first or last row. The row is entered by a goal; if it
+/// is the place's own, the place stays.
 pub(crate) fn rows_away<D: BidiData>(
     view: &mut View,
     text_ref: &TextRef<'_, D>,
     way: Vertical,
     count: usize,
-    column: u16,
+    goal: Goal,
     place: usize,
 ) -> Result<usize, OutOfMemory>
     requires data { IsViewBy text_ref.now view.old }
     ensures keeps { Keeps text_ref.now view.old view.new }
-    ensures place { IfOk result (λ o. o ≡ rows_away view.old.w (rows text_ref.now view.old) way count column place) }
+    ensures place { IfOk result (λ o. o ≡ rows_away view.old.w (rows text_ref.now view.old) way count goal place) }
 {
     let at = view.row_at(text_ref, place)?;
-    // A row is known by its first offset: no other begins there.
     let own = view.first_in(text_ref, at);
     let there = row_away(view, text_ref, way, count, at)?;
-    let first = view.first_in(text_ref, there);
-    if first == own {
-        return Ok(place);
-    }
-    let entry = entry(&view.row(text_ref, there), column)?;
-    Ok(entry.unwrap_or(place))
+    // The proof compares the place, so it has a name.
+    let place = to_row(view, text_ref, goal, place, own, there)?;
+    Ok(place)
 }
 
 /// The place after a move of `count` rows up or down into the column of the place's cell.
@@ -120,10 +165,10 @@ pub(crate) fn rows_straight<D: BidiData>(
 ) -> Result<usize, OutOfMemory>
     requires data { IsViewBy text_ref.now view.old }
     ensures keeps { Keeps text_ref.now view.old view.new }
-    ensures place { IfOk result (λ o. o ≡ rows_away view.old.w (rows text_ref.now view.old) way count (cell_of view.old.w (rows text_ref.now view.old) place) place) }
+    ensures place { IfOk result (λ o. o ≡ rows_straight view.old.w (rows text_ref.now view.old) way count place) }
 {
     let column = view.cell_of(text_ref, place)?;
     // The proof compares the place, so it has a name.
-    let place = rows_away(view, text_ref, way, count, column, place)?;
+    let place = rows_away(view, text_ref, way, count, Goal::Column(column), place)?;
     Ok(place)
 }

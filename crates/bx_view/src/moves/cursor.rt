@@ -39,8 +39,8 @@ fn led_by<D: BidiData>(
             let place = rows_straight(view, text_ref, way, count, place)?;
             Ok(place)
         }
-        Move::RowsIn(way, count, column) => {
-            let place = rows_away(view, text_ref, way, count, column, place)?;
+        Move::RowsIn(way, count, goal) => {
+            let place = rows_away(view, text_ref, way, count, goal, place)?;
             Ok(place)
         }
         Move::RowHome => {
