@@ -1,20 +1,27 @@
--- Going to a line, and characters by name or code: what is asked, and how it is answered. `d` is Unicode's data, `e` the editor;
--- `typing` is what the key before left.
-use Rattle.std.specs.Prelude.{ℕ, ◌+◌, ◌==◌, Bool, false, List, [], length, chars, encode_utf8, unwrap_or, Option, Some, None, if◌then◌else◌}
+-- Going to a line, characters by name or code, and saving under a name: what is asked, and how it is answered. `d` is Unicode's data, `e` the
+-- editor; `typing` is what the key before left; `fault`: why the save that an answer makes failed, None if it succeeded.
+use Rattle.std.specs.Prelude.{ℕ, ◌+◌, ◌==◌, ◌&&◌, Bool, true, false, List, [], length, chars, encode_utf8, unwrap_or, Option, Some, None, if◌then◌else◌}
 use Rattle.std.specs.List.{list_any}
 use Rattle.bx_ucd.specs.Data.{Data}
 use Rattle.bx_editor.specs.declared.questions.line.Target.{Target}
 use Rattle.bx_editor.specs.declared.questions.answers.Prompt.{Prompt}
-use Rattle.bx_editor.specs.declared.questions.answers.Prompt.TheVariants.{Off, Line, Name, Code}
-use Rattle.bx_editor.specs.questions.Answers.{lengthened, shortened, asked, is_line_letter}
+use Rattle.bx_editor.specs.declared.questions.answers.Prompt.TheVariants.{Off, Line, Name, Code, File, Overwrite}
+use Rattle.bx_store.specs.declared.store.StoreFault.{StoreFault}
+use Rattle.bx_editor.specs.declared.input_line.Erasure.{Erasure}
+use Rattle.bx_editor.specs.declared.input_line.Erasure.TheVariants.{LastCharacter}
+use Rattle.bx_editor.specs.questions.Answers.{asked, is_line_letter}
+use Rattle.bx_editor.specs.questions.KeyLetters.{code_letter, name_letter}
 use Rattle.bx_editor.specs.questions.Names.{coded, is_code_letter, asks_code, closing, named}
+use Rattle.bx_editor.specs.InputLines.{InputLine, erases_nothing, held_letters, is_no_letter, line_lengthened, line_shortened, line_with}
+use Rattle.bx_editor.specs.Saving.{after_naming, longest_name}
+use Rattle.bx_editor.specs.Search.{after_letters}
 use Rattle.bx_editor.specs.declared.undo_groups.typing.Typing.{Typing}
 use Rattle.bx_editor.specs.undo_groups.Groups.{after_insertion, kind_of}
 use Rattle.bx_text.specs.Edits.{fits, fits_both}
 use Rattle.bx_view.specs.Numbers.{place_of, paragraph_number}
 use Rattle.bx_editor.specs.declared.message.Message.TheVariants.{NoSuchCharacter, TextFull, MoreThanOneLine}
 use Rattle.bx_editor.specs.Editor.{Editor, rows_of, with_insertion, with_place, with_typing, with_edit}
-use Rattle.bx_editor.specs.Putting.{is_paste, only_paste}
+use Rattle.bx_editor.specs.Putting.{is_paste}
 use Rattle.bx_editor.specs.Region.{is_empty, region, bytes_in}
 use Rattle.bx_text.specs.index.Paragraphs.{is_separator}
 use Rattle.bx_document.specs.declared.edits.RegionEnd.{RegionEnd}
@@ -56,14 +63,22 @@ longest_code = 6
 
 -- `prompt` is asked, with an empty answer
 abbrev pub asking : Editor → Prompt → Editor
-asking e prompt = record e { prompt = prompt; answer = [] }
+asking e prompt = record e { prompt = prompt; answer = []; input_cursor = 0 }
 
 -- nothing is asked any more
 abbrev pub without_prompt : Editor → Editor
 without_prompt e = record e { prompt = Off }
 
-abbrev pub with_answer : Editor → List ℕ → Editor
-with_answer e answer = record e { answer = answer }
+-- the answer with the cursor in it
+abbrev pub answer_line : Editor → InputLine
+answer_line e = line_with e.answer e.input_cursor
+
+abbrev pub with_answer : Editor → InputLine → Editor
+with_answer e l = record e { answer = l.text; input_cursor = l.cursor }
+
+-- a character goes into the answer, unless it has as many as it may
+abbrev pub answer_lengthened : Data → ℕ → Editor → ℕ → Editor
+answer_lengthened d limit e c = with_answer e (line_lengthened d limit (answer_line e) c)
 
 -- ---- a line
 
@@ -82,12 +97,10 @@ gone_to d e (Some target) = with_place e (target_place d e target)
 abbrev pub after_going : Data → Editor → Editor
 after_going d e = gone_to d (without_prompt e) (asked (chars e.answer))
 
--- a character `c` is typed as part of the answer; LF goes to the line, but in a paste LF does nothing
-abbrev pub after_line_letter : Data → Typing → Editor → ℕ → Editor
-after_line_letter d typing e c =
-    if c == 0xA
-    then (if is_paste typing then e else after_going d e)
-    else if is_line_letter c then with_answer e (lengthened longest_line e.answer c) else e
+-- a character `c` is typed as part of the answer; LF goes to the line
+abbrev pub after_line_letter : Data → Editor → ℕ → Editor
+after_line_letter d e c =
+    if c == 0xA then after_going d e else if is_line_letter c then answer_lengthened d longest_line e c else e
 
 -- ---- a character by name
 
@@ -108,8 +121,11 @@ after_named d e c (Some closer) = if is_empty (region e) then with_character d e
 -- a code, LF ends the question, and any other does nothing
 abbrev pub after_name_letter : Data → Editor → ℕ → Option ℕ → Editor
 after_name_letter d e letter (Some c) = after_named d (without_prompt e) c (closing letter)
-after_name_letter d e letter None =
-    if asks_code letter then record e { prompt = Code } else if letter == 0xA then without_prompt e else e
+after_name_letter d e letter None = if asks_code letter then asking e Code else if letter == 0xA then without_prompt e else e
+
+-- a character is typed there: as the letter on its key, if it answers nothing itself
+abbrev pub after_name_key : Data → Editor → ℕ → Editor
+after_name_key d e c = after_name_letter d e (name_letter c) (named (name_letter c))
 
 -- ---- a character by code
 
@@ -123,24 +139,47 @@ abbrev pub after_code_letter : Data → Editor → ℕ → Editor
 after_code_letter d e letter =
     if letter == 0xA
     then after_code d (without_prompt e) (coded e.answer)
-    else if is_code_letter letter then with_answer e (lengthened longest_code e.answer letter) else e
+    else if is_code_letter letter then answer_lengthened d longest_code e letter else e
 
--- ---- any question
+-- a character is typed there: as the digit on its key, if it is none itself
+abbrev pub after_code_key : Data → Editor → ℕ → Editor
+after_code_key d e c = after_code_letter d e (code_letter c)
 
--- `new`, but what is pasted answers no question for a character
-abbrev pub unless_paste : Typing → Editor → Editor → Editor
-unless_paste typing e new = if is_paste typing then with_typing e typing else new
+-- ---- a name to save under
 
--- a character is typed while something is asked
-abbrev pub after_answer_letter : Data → Typing → Prompt → Editor → ℕ → Editor
-after_answer_letter d typing Off e c = e
-after_answer_letter d typing Line e c = with_typing (after_line_letter d typing e c) (only_paste typing)
-after_answer_letter d typing Name e c = unless_paste typing e (after_name_letter d e c (named c))
-after_answer_letter d typing Code e c = unless_paste typing e (after_code_letter d e c)
+-- a character is typed as part of the name, or LF, which saves under it; a tab or a character that separates paragraphs does nothing
+abbrev pub after_file_letter : Data → Option StoreFault → Editor → ℕ → Editor
+after_file_letter d fault e c =
+    if c == 0xA
+    then after_naming fault (without_prompt e)
+    else if is_no_letter d c then e else answer_lengthened d longest_name e c
 
--- the answer loses its last character; an empty code becomes the question for a name again
-abbrev pub after_shorter_answer : Prompt → Editor → Editor
-after_shorter_answer Off e = e
-after_shorter_answer Line e = with_answer e (shortened e.answer)
-after_shorter_answer Name e = e
-after_shorter_answer Code e = if length e.answer == 0 then record e { prompt = Name } else with_answer e (shortened e.answer)
+-- ---- any question with an input line
+
+-- a character is typed as part of the answer
+abbrev pub after_answer_letter : Data → Option StoreFault → Prompt → Editor → ℕ → Editor
+after_answer_letter d fault Line e c = after_line_letter d e c
+after_answer_letter d fault Code e c = after_code_key d e c
+after_answer_letter d fault File e c = after_file_letter d fault e c
+after_answer_letter d fault _ e c = e
+
+-- the answer is a code
+abbrev pub is_code_prompt : Prompt → Bool
+is_code_prompt Code = true
+is_code_prompt _ = false
+
+-- an erasure of the last character
+abbrev pub is_of_last : Erasure → Bool
+is_of_last LastCharacter = true
+is_of_last _ = false
+
+-- the answer loses what an erasure removes; where that is nothing, an empty code becomes the question for a name again
+abbrev pub after_erasing_answer : Data → Prompt → Editor → Erasure → Editor
+after_erasing_answer d prompt e how =
+    if is_code_prompt prompt && is_of_last how && (length e.answer == 0)
+    then record e { prompt = Name }
+    else if erases_nothing d how (answer_line e) then e else with_answer e (line_shortened d how (answer_line e))
+
+-- the held text goes into the answer, up to its first line end or tab
+abbrev pub after_putting_in_answer : Data → Option StoreFault → Prompt → Editor → Editor
+after_putting_in_answer d fault prompt e = after_letters (after_answer_letter d fault prompt) e (held_letters d e.held)

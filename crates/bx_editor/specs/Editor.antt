@@ -9,7 +9,6 @@ use Rattle.bx_editor.specs.declared.questions.answers.Prompt.TheVariants as prom
 use Rattle.bx_editor.specs.declared.clicks.Clicks.{Clicks}
 use Rattle.bx_editor.specs.declared.clicks.Pressed.{Pressed}
 use Rattle.bx_keys.specs.declared.notice.Notice.{Notice}
-use Rattle.bx_store.specs.declared.store.StoreFault.{StoreFault}
 use Rattle.bx_text.specs.Edits.{Edited, Edit, opened, undone, redone}
 use Rattle.bx_text.specs.declared.change.Change.{Change}
 use Rattle.bx_view.specs.TextRows.{TextRow, text_rows}
@@ -239,11 +238,6 @@ nothing_left Undo = messages.NothingToUndo
 nothing_left Redo = messages.NothingToRedo
 
 -- ---- keys that do not edit
-
--- a save succeeded, or failed with this fault, whose cause is told
-abbrev pub after_save : Editor → Option StoreFault → Editor
-after_save e None = record e { stored = Some (length e.content.past); changed = false; message = Some messages.Saved }
-after_save e (Some fault) = record e { message = Some (messages.SaveFailed fault.cause) }
 
 -- the session ends if there are no unsaved changes or the key before was Quit too
 abbrev pub after_quit : Editor → Bool → Editor

@@ -10,14 +10,15 @@ use Rattle.bx_editor.specs.declared.search_state.SearchPurpose.{SearchPurpose}
 use Rattle.bx_editor.specs.declared.message.Message.TheVariants.{Told, ViewOnly}
 use Rattle.bx_editor.specs.Asking.{asking}
 use Rattle.bx_editor.specs.Before.{Before}
-use Rattle.bx_editor.specs.Editor.{Editor, after_help, after_quit, after_save, after_step, next_base, with_base, with_place, with_typing}
+use Rattle.bx_editor.specs.Editor.{Editor, after_help, after_quit, after_step, next_base, with_base, with_place, with_typing}
 use Rattle.bx_editor.specs.Editor.{after_group_step}
 use Rattle.bx_editor.specs.Erasing.{after_erasing, after_erasing_word}
 use Rattle.bx_editor.specs.Putting.{after_character, after_new_line, after_put}
 use Rattle.bx_editor.specs.Pointing.{after_drag, after_point, selecting_part}
 use Rattle.bx_editor.specs.Region.{after_copy, after_cut, after_mark, without_mark, after_select, unselected}
 use Rattle.bx_editor.specs.RowMoves.{after_row_end, after_row_move, after_wheel}
-use Rattle.bx_editor.specs.Search.{after_beginning, after_find_next}
+use Rattle.bx_editor.specs.Saving.{after_saving, asking_name, asking_over}
+use Rattle.bx_editor.specs.Search.{after_beginning, after_find_next, after_find_previous}
 
 -- what a key does
 pub data Effect : Type 0 where
@@ -48,17 +49,20 @@ pub data Effect : Type 0 where
   -- the region, or the line if it is empty, is held; Cuts removes it too
   Copies : Effect
   Cuts : Effect
-  -- a search begins, or the next match is sought
+  -- a search begins, or the next or the previous match is sought
   Seeks : SearchPurpose → Effect
   SeeksNext : Effect
+  SeeksPrevious : Effect
   Saves : Effect
   Quits : Effect
   -- the next base direction is taken; the next list of keys is shown
   Turns : Effect
   Helps : Effect
-  -- a line is asked for, or a character's name; what stands at the place is told
+  -- a line is asked for, a character's name, a name to save under, or whether to overwrite; what stands at the place is told
   AsksLine : Effect
   AsksName : Effect
+  AsksFile : Effect
+  AsksOverwrite : Effect
   Tells : Effect
   -- nothing, since the text is only looked at
   Refuses : Effect
@@ -89,12 +93,15 @@ by d fault was e Copies = after_copy d e
 by d fault was e Cuts = after_cut d e
 by d fault was e (Seeks purpose) = after_beginning purpose (unselected e)
 by d fault was e SeeksNext = after_find_next d (unselected e)
-by d fault was e Saves = after_save e fault
+by d fault was e SeeksPrevious = after_find_previous d (unselected e)
+by d fault was e Saves = after_saving fault e
 by d fault was e Quits = after_quit e was.again
 by d fault was e Turns = with_base e (next_base e.base)
 by d fault was e Helps = after_help e was.message
 by d fault was e AsksLine = asking (unselected e) Line
 by d fault was e AsksName = asking e Name
+by d fault was e AsksFile = asking_name e
+by d fault was e AsksOverwrite = asking_over e
 by d fault was e Tells = record e { message = Some Told }
 by d fault was e Refuses = record e { message = Some ViewOnly }
 by d fault was e Rests = with_typing e was.typing

@@ -23,7 +23,15 @@ use Rattle.bx_editor.specs.declared.search_state.SearchState.{SearchState}
 use Rattle.bx_editor.specs.declared.search_state.SearchState.TheVariants.{Off, Begun, Typed, WithBegun, WithTyped, Replacing}
 use Rattle.bx_editor.specs.declared.questions.answers.Prompt.{Prompt}
 use Rattle.bx_editor.specs.declared.questions.answers.Prompt.TheVariants as prompts
-use Rattle.bx_editor.specs.Asking.{after_answer_letter, after_shorter_answer, without_prompt}
+use Rattle.bx_view.specs.declared.moves.Move.{Move}
+use Rattle.bx_view.specs.declared.moves.Move.TheVariants as moves
+use Rattle.bx_editor.specs.declared.input_line.Erasure.{Erasure}
+use Rattle.bx_editor.specs.declared.input_line.Erasure.TheVariants.{LastCharacter, Unit, WordBack, WordOn}
+use Rattle.bx_editor.specs.declared.undo_groups.typing.Typing.{Typing}
+use Rattle.bx_editor.specs.declared.undo_groups.typing.Typing.TheVariants.{Paste, Spent}
+use Rattle.bx_editor.specs.Asking.{after_answer_letter, after_erasing_answer, after_name_key, after_putting_in_answer, without_prompt}
+use Rattle.bx_editor.specs.InputLines.{after_taking}
+use Rattle.bx_editor.specs.Saving.{Saving, after_deciding, can_save, confirms, own_saving, saving_over, saving_under}
 use Rattle.bx_editor.specs.Editor.{Editor, cleared, rows, text_height, with_notice, with_size, with_typing}
 use Rattle.bx_editor.specs.Effects.{Effect, Types, BeginsLine, Puts, Removes, RemovesWord, Steps, StepsGroup, Goes, GoesByRows, GoesToRowEnd, Clicks}
 use Rattle.bx_editor.specs.Effects.{Drags, Wheels, Marks, Selects, SelectsAll, Unmarks, Copies, Cuts, Seeks, SeeksNext, Saves, Quits, Turns, Helps}
@@ -33,10 +41,10 @@ use Rattle.bx_editor.specs.Clicks.{clicks_behind, pressed_behind}
 use Rattle.bx_editor.specs.Erasing.{erased_from}
 use Rattle.bx_editor.specs.RowMoves.{after_wheel, goal_behind}
 use Rattle.bx_editor.specs.Scrolling.{page_rows}
-use Rattle.bx_editor.specs.Putting.{after_paste_end, after_paste_start, after_pasted_letter, paste_ended, only_paste}
-use Rattle.bx_editor.specs.Replacing.{after_asking_replacement, after_ending, after_match_letter, after_replacement_letter, after_passing_over}
-use Rattle.bx_editor.specs.Replacing.{after_replacing_all, after_shorter_replacement, after_showing, after_sought_letter}
-use Rattle.bx_editor.specs.Search.{after_find, after_find_back, after_giving_up, after_shortening, without_search}
+use Rattle.bx_editor.specs.Putting.{after_paste_end, after_paste_start, after_pasted_letter, is_paste, paste_ended, only_paste}
+use Rattle.bx_editor.specs.Replacing.{after_asking_replacement, after_ending, after_erasing_replacement, after_match_letter, after_passing_over}
+use Rattle.bx_editor.specs.Replacing.{after_putting_in_replacement, after_replacement_letter, after_replacing_all, after_showing, after_sought_letter}
+use Rattle.bx_editor.specs.Search.{after_erasing_query, after_find, after_find_back, after_giving_up, after_moving_in, after_putting_in_query, without_search}
 use Rattle.bx_editor.specs.Region.{soft_behind}
 
 -- ---- outside a search and a question
@@ -87,12 +95,15 @@ effect_of d e Find = Seeks purposes.Find
 effect_of d e FindBack = Seeks purposes.Find
 effect_of d e Replace = Seeks purposes.Replace
 effect_of d e FindNext = SeeksNext
+effect_of d e FindPrevious = SeeksPrevious
 effect_of d e Save = Saves
 effect_of d e Quit = Quits
 effect_of d e Direction = Turns
 effect_of d e Help = Helps
 effect_of d e GoTo = AsksLine
 effect_of d e Name = AsksName
+effect_of d e SaveAs = AsksFile
+effect_of d e AskOverwrite = AsksOverwrite
 effect_of d e Tell = Tells
 effect_of d e _ = Rests
 
@@ -124,13 +135,17 @@ allowed_effect d e key = if e.read_only && changes_text key then Refuses else ef
 abbrev pub after_pressing : Data → Option StoreFault → Before → Editor → Key → Editor
 after_pressing d fault was e key = by d fault was e (allowed_effect d e key)
 
--- ---- while the query is asked for: a key answers, or does what it always does and ends the search
+-- ---- where something is asked: what a key means
 
--- what a key means where something is asked: a character is typed, the last one removed, all given up, the next or the previous
--- match sought, matches replaced, the view moved, nothing done, or its usual effect taken
+-- A character is typed; in an input line something is erased, the cursor moves, the held text is put in, or nothing is done; all is given
+-- up; the next or the previous match is sought; matches are replaced; the view moves; what is typed stays; or the key has its usual
+-- effect.
 pub data Answer : Type 0 where
   Letter : ℕ → Answer
-  Shortens : Answer
+  Erases : Erasure → Answer
+  Moves : Move → Answer
+  PutsIn : Answer
+  Passes : Answer
   GoesBack : Answer
   Next : Answer
   Previous : Answer
@@ -139,46 +154,79 @@ pub data Answer : Type 0 where
   Stays : Answer
   Ends : Answer
 
--- what each key means as an answer; in a question Next, Previous and Replaces are as Ends
+-- what each key means where an input line is shown; in a question Next, Previous and Replaces are as Ends
 abbrev pub answer_of : Key → Answer
 answer_of (Insert c) = Letter c
 answer_of NewLine = Letter 0xA
-answer_of Erase = Shortens
-answer_of ErasePoint = Shortens
-answer_of Delete = Shortens
+answer_of Erase = Erases LastCharacter
+answer_of ErasePoint = Erases LastCharacter
+answer_of Delete = Erases Unit
+answer_of EraseWord = Erases WordBack
+answer_of DeleteWord = Erases WordOn
+answer_of Back = Moves (moves.Logical logical.Back)
+answer_of Forward = Moves (moves.Logical logical.Forward)
+answer_of Left = Moves (moves.Visual visual.Left)
+answer_of Right = Moves (moves.Visual visual.Right)
+answer_of WordLeft = Moves (moves.WordTowards visual.Left)
+answer_of WordRight = Moves (moves.WordTowards visual.Right)
+answer_of RowHome = Moves moves.RowHome
+answer_of RowEnd = Moves moves.RowEnd
+answer_of Put = PutsIn
+answer_of Up = Passes
+answer_of Down = Passes
+answer_of LineUp = Passes
+answer_of LineDown = Passes
+answer_of Select = Passes
+answer_of Mark = Passes
+answer_of Cut = Passes
 answer_of Quit = GoesBack
 answer_of Copy = GoesBack
 answer_of Cancel = GoesBack
 answer_of Find = Next
 answer_of FindNext = Next
 answer_of FindBack = Previous
+answer_of FindPrevious = Previous
 answer_of Replace = Replaces
 answer_of ScrollBack = Scrolls ways.Up
 answer_of ScrollOn = Scrolls ways.Down
 answer_of Repaint = Stays
 answer_of _ = Ends
 
--- the editor after an answer; after a letter a paste goes on, but no undo group
+-- what a key means where something is asked without an input line: what edits one has its usual effect there, but a character or a unit
+-- is not erased
+abbrev pub without_line : Answer → Answer
+without_line (Erases WordBack) = Ends
+without_line (Erases WordOn) = Ends
+without_line (Moves m) = Ends
+without_line PutsIn = Ends
+without_line Passes = Ends
+without_line answer = answer
+
+-- ---- while the query is asked for: a key answers, or ends the search and does what it always does
+
 abbrev pub answered : Data → Option StoreFault → Before → Editor → Key → Answer → Editor
-answered d fault was e key (Letter c) = with_typing (after_sought_letter d was.typing e c) (only_paste was.typing)
-answered d fault was e key Shortens = after_shortening d e
+answered d fault was e key (Letter c) = after_taking d was.typing c e (after_sought_letter d e c)
+answered d fault was e key (Erases how) = after_erasing_query d e how
+answered d fault was e key (Moves m) = after_moving_in d e e.query m
+answered d fault was e key PutsIn = after_putting_in_query d e
+answered d fault was e key Passes = e
 answered d fault was e key GoesBack = after_giving_up e
 answered d fault was e key Next = after_find d e
 answered d fault was e key Previous = after_find_back d e
 answered d fault was e key Replaces = after_asking_replacement d e
 answered d fault was e key (Scrolls way) = after_wheel d was e way
 answered d fault was e key Stays = with_typing e was.typing
-answered d fault was e key Ends = without_search (after_pressing d fault was e key)
+answered d fault was e key Ends = after_pressing d fault was (without_search e) key
 
-abbrev pub after_seeking : Data → Option StoreFault → Before → Editor → Key → Editor
-after_seeking d fault was e key = answered d fault was e key (answer_of key)
-
--- ---- while the replacement is asked for: a key answers, or ends the search and does what it always does
+-- ---- while the replacement is asked for
 
 -- Next and Previous begin another search, and Replaces shows the first match
 abbrev pub answered_replacement : Data → Option StoreFault → Before → Editor → Key → Answer → Editor
-answered_replacement d fault was e key (Letter c) = with_typing (after_replacement_letter d was.typing e c) (only_paste was.typing)
-answered_replacement d fault was e key Shortens = after_shorter_replacement e
+answered_replacement d fault was e key (Letter c) = after_taking d was.typing c e (after_replacement_letter d e c)
+answered_replacement d fault was e key (Erases how) = after_erasing_replacement d e how
+answered_replacement d fault was e key (Moves m) = after_moving_in d e e.replacement m
+answered_replacement d fault was e key PutsIn = after_putting_in_replacement d e
+answered_replacement d fault was e key Passes = e
 answered_replacement d fault was e key GoesBack = after_giving_up e
 answered_replacement d fault was e key Next = by d fault was (without_search e) (Seeks purposes.Find)
 answered_replacement d fault was e key Previous = by d fault was (without_search e) (Seeks purposes.Find)
@@ -192,38 +240,60 @@ answered_replacement d fault was e key Ends = after_pressing d fault was (withou
 -- Previous begins another search, and Replaces replaces this match and all that follow
 abbrev pub answered_match : Data → Option StoreFault → Before → Editor → Key → Answer → Editor
 answered_match d fault was e key (Letter c) = with_typing (after_match_letter d was.typing e c) (only_paste was.typing)
-answered_match d fault was e key Shortens = e
+answered_match d fault was e key (Erases how) = e
 answered_match d fault was e key GoesBack = after_ending e
 answered_match d fault was e key Next = after_passing_over d e
 answered_match d fault was e key Previous = by d fault was (without_search e) (Seeks purposes.Find)
 answered_match d fault was e key Replaces = after_replacing_all d e
 answered_match d fault was e key (Scrolls way) = after_wheel d was e way
 answered_match d fault was e key Stays = with_typing e was.typing
-answered_match d fault was e key Ends = after_pressing d fault was (without_search e) key
+answered_match d fault was e key _ = after_pressing d fault was (without_search e) key
 
 -- ---- in any state of a search
 
 -- a key while no question is on, by the state of the search: as a key of a query, of a replacement, or of a match that is shown
 abbrev pub after_searching : Data → Option StoreFault → Before → SearchState → Editor → Key → Editor
 after_searching d fault was Off e key = after_pressing d fault was e key
-after_searching d fault was Begun e key = after_seeking d fault was e key
-after_searching d fault was Typed e key = after_seeking d fault was e key
+after_searching d fault was Begun e key = answered d fault was e key (answer_of key)
+after_searching d fault was Typed e key = answered d fault was e key (answer_of key)
 after_searching d fault was WithBegun e key = answered_replacement d fault was e key (answer_of key)
 after_searching d fault was WithTyped e key = answered_replacement d fault was e key (answer_of key)
-after_searching d fault was Replacing e key = answered_match d fault was e key (answer_of key)
+after_searching d fault was Replacing e key = answered_match d fault was e key (without_line (answer_of key))
 
 -- ---- in a question: a key answers it, or ends it and does what it always does
 
+-- in one with an input line
 abbrev pub answered_question : Data → Option StoreFault → Before → Editor → Key → Answer → Editor
-answered_question d fault was e key (Letter c) = after_answer_letter d was.typing e.prompt e c
-answered_question d fault was e key Shortens = after_shorter_answer e.prompt e
+answered_question d fault was e key (Letter c) = after_taking d was.typing c e (after_answer_letter d fault e.prompt e c)
+answered_question d fault was e key (Erases how) = after_erasing_answer d e.prompt e how
+answered_question d fault was e key (Moves m) = after_moving_in d e e.answer m
+answered_question d fault was e key PutsIn = after_putting_in_answer d fault e.prompt e
+answered_question d fault was e key Passes = e
 answered_question d fault was e key GoesBack = without_prompt e
 answered_question d fault was e key (Scrolls way) = after_wheel d was e way
 answered_question d fault was e key Stays = with_typing e was.typing
 answered_question d fault was e key _ = after_pressing d fault was (without_prompt e) key
 
-abbrev pub after_asking : Data → Option StoreFault → Before → Editor → Key → Editor
-after_asking d fault was e key = answered_question d fault was e key (answer_of key)
+-- in the question for a character's name; what is pasted answers nothing
+abbrev pub answered_name : Data → Option StoreFault → Before → Editor → Key → Answer → Editor
+answered_name d fault was e key (Letter c) = if is_paste was.typing then with_typing e was.typing else after_name_key d e c
+answered_name d fault was e key (Erases how) = e
+answered_name d fault was e key GoesBack = without_prompt e
+answered_name d fault was e key (Scrolls way) = after_wheel d was e way
+answered_name d fault was e key Stays = with_typing e was.typing
+answered_name d fault was e key _ = after_pressing d fault was (without_prompt e) key
+
+-- in the question whether to overwrite: a letter confirms it, and any other key only declines; what is pasted does neither
+abbrev pub answered_overwrite : Option StoreFault → Before → Editor → Answer → Editor
+answered_overwrite fault was e (Letter c) = if is_paste was.typing then with_typing e was.typing else after_deciding fault (without_prompt e) c
+answered_overwrite fault was e Stays = with_typing e was.typing
+answered_overwrite fault was e _ = without_prompt e
+
+-- by what is asked
+abbrev pub after_asking : Data → Option StoreFault → Before → Prompt → Editor → Key → Editor
+after_asking d fault was prompts.Name e key = answered_name d fault was e key (without_line (answer_of key))
+after_asking d fault was prompts.Overwrite e key = answered_overwrite fault was e (answer_of key)
+after_asking d fault was _ e key = answered_question d fault was e key (answer_of key)
 
 -- ---- any key
 
@@ -242,7 +312,7 @@ refuses_replacing e key = e.read_only && is_replace key && not (is_overwrite e.p
 -- a question has the key before a search has
 abbrev pub after_any : Data → Option StoreFault → Before → Prompt → SearchState → Editor → Key → Editor
 after_any d fault was prompts.Off search_state e key = after_searching d fault was search_state e key
-after_any d fault was _ _ e key = after_asking d fault was e key
+after_any d fault was prompt _ e key = after_asking d fault was prompt e key
 
 -- with the kept column, the selection and the presses that a key leaves
 abbrev pub as_left : Key → Editor → Editor
@@ -333,6 +403,33 @@ needs_no_painting e key = is_some e.pasted && is_of_paste key
 abbrev pub is_save : Key → Bool
 is_save Save = true
 is_save _ = false
+
+-- ---- which keys store the text
+
+-- what is typed is no part of a paste
+abbrev pub is_typed : Typing → Bool
+is_typed Paste = false
+is_typed Spent = false
+is_typed _ = true
+
+-- the answer that saves under a name is complete
+abbrev pub ends_name : Editor → ℕ → Bool
+ends_name e c = (c == 0xA) && is_typed e.typing && not (length e.answer == 0)
+
+-- a letter that confirms overwriting, where the text can be saved
+abbrev pub overwrites : Editor → ℕ → Bool
+overwrites e c = confirms c && not (is_paste e.typing) && can_save e
+
+-- where a key stores the text: a Save, or an answer
+abbrev pub saving_by : Editor → Prompt → Key → Answer → Option Saving
+saving_by e prompts.File key (Letter c) = if ends_name e c then Some (saving_under e e.answer) else None
+saving_by e prompts.Overwrite key (Letter c) = if overwrites e c then Some (saving_over e) else None
+saving_by e prompts.Overwrite key answer = None
+saving_by e prompt key answer = if is_save key && can_save e then Some (own_saving e e.name) else None
+
+-- where a key stores the text, if it does and no paste is under way
+abbrev pub saving_of : Editor → Key → Option Saving
+saving_of e key = if is_some e.pasted then None else saving_by e e.prompt key (answer_of key)
 
 -- a key after which the screen's content counts as unknown, so that all of it is painted
 abbrev pub asks_for_whole : Key → Bool

@@ -2,10 +2,12 @@ pub mod Clicks
 pub mod Editor
 pub mod Settings
 pub mod Region
+pub mod InputLines
 pub mod Search
 pub mod Erasing
 pub mod Putting
 pub mod Replacing
+pub mod Saving
 pub mod Asking
 pub mod Answers
 pub mod Prompts

@@ -3,57 +3,63 @@
 use Rattle.std.specs.Prelude.{ℕ, ◌+◌, ◌==◌, not, ◌&&◌, Bool, true, false, List, length, Option, Some, None, if◌then◌else◌}
 use Rattle.bx_ucd.specs.Data.{Data}
 use Rattle.bx_find.specs.Matches.{first_from, match_end, spans_from}
+use Rattle.bx_find.specs.Parts.{first_between}
 use Rattle.bx_document.specs.Swapped.{behind_character, last_stop, swapped}
 use Rattle.bx_editor.specs.declared.undo_groups.typing.Typing.{Typing}
 use Rattle.bx_text.specs.Edits.{fits}
-use Rattle.bx_view.specs.Moves.{place_at}
+use Rattle.bx_view.specs.Moves.{place_at, step_logical}
+use Rattle.bx_view.specs.declared.moves.Logical.TheVariants.{Forward}
 use Rattle.bx_editor.specs.declared.search_state.SearchPurpose.{SearchPurpose}
 use Rattle.bx_editor.specs.declared.search_state.SearchPurpose.TheVariants.{Find, Replace}
 use Rattle.bx_editor.specs.declared.message.Message.TheVariants.{Replaced, TextFull}
 use Rattle.bx_editor.specs.declared.search_state.SearchState.{SearchState}
-use Rattle.bx_editor.specs.declared.search_state.SearchState.TheVariants.{Off, Typed, WithBegun, WithTyped, Replacing}
+use Rattle.bx_editor.specs.declared.search_state.SearchState.TheVariants.{Off, Begun, Typed, WithBegun, WithTyped, Replacing}
 use Rattle.bx_editor.specs.Editor.{Editor, rows, with_exchange}
-use Rattle.bx_editor.specs.Putting.{with_paste, is_paste}
+use Rattle.bx_editor.specs.InputLines.{InputLine, erases_nothing, held_letters, line_lengthened, line_shortened, line_with}
+use Rattle.bx_editor.specs.declared.input_line.Erasure.{Erasure}
+use Rattle.bx_editor.specs.Putting.{is_paste}
 use Rattle.bx_editor.specs.Region.{region}
-use Rattle.bx_editor.specs.Search.{after_letter, is_no_letter, kept, landed, landing_from, lengthened, reading, shortened, sought, without_search}
+use Rattle.bx_editor.specs.InputLines.{is_no_letter}
+use Rattle.bx_editor.specs.Search.{after_letter, after_letters, kept, landed, landing_from, nothing_sought, reading, sought, without_search}
 use Rattle.bx_editor.specs.Search.{longest_query}
 
 -- ---- the question for the replacement
 
--- where a match was found the replacement is asked for, and no match is replaced yet; else the query is asked for still
+-- where a match was found the replacement is asked for, with the cursor at its end, and no match is replaced yet; else the query is
+-- asked for still
 abbrev pub asked_at : Option ℕ → Editor → Editor
 asked_at None e = record e { search_state = Typed }
-asked_at (Some place) e = record e { search_state = WithBegun; count = 0 }
+asked_at (Some place) e = record e { search_state = WithBegun; count = 0; input_cursor = length e.replacement }
 
 -- the query is sought from the place on, as a search for replacing; without letters nothing is sought
 abbrev pub after_asking_replacement : Data → Editor → Editor
 after_asking_replacement d e =
     let aimed = record e { purpose = Replace } in
     if length (sought d aimed) == 0
-    then aimed
+    then landed aimed (nothing_sought aimed.query)
     else let landing = landing_from d aimed.place aimed in asked_at landing.place (landed aimed landing)
 
 abbrev pub is_replacing : SearchPurpose → Bool
 is_replacing Find = false
 is_replacing Replace = true
 
--- a line end in a search: in one for replacing it asks for the replacement, but a pasted one asks nothing; in one for finding it ends
--- the search, and what a paste then brings goes into the text
-abbrev pub after_sought_end : Data → Typing → Editor → Editor
-after_sought_end d typing e =
-    if is_replacing e.purpose
-    then (if is_paste typing then e else after_asking_replacement d e)
-    else if is_paste typing then with_paste (without_search e) else without_search e
+-- a line end in a search: in one for replacing it asks for the replacement, in one for finding it ends the search
+abbrev pub after_sought_end : Data → Editor → Editor
+after_sought_end d e = if is_replacing e.purpose then after_asking_replacement d e else without_search e
 
 -- a typed character in a search
-abbrev pub after_sought_letter : Data → Typing → Editor → ℕ → Editor
-after_sought_letter d typing e c = if c == 0xA then after_sought_end d typing e else after_letter d e c
+abbrev pub after_sought_letter : Data → Editor → ℕ → Editor
+after_sought_letter d e c = if c == 0xA then after_sought_end d e else after_letter d e c
 
 -- ---- the replacement
 
 -- the replacement was typed
-abbrev pub with_replacement : Editor → List ℕ → Editor
-with_replacement e other = record e { replacement = other; search_state = WithTyped }
+abbrev pub with_replacement : Editor → InputLine → Editor
+with_replacement e l = record e { replacement = l.text; input_cursor = l.cursor; search_state = WithTyped }
+
+-- the replacement with the cursor in it
+abbrev pub replacement_line : Editor → InputLine
+replacement_line e = line_with e.replacement e.input_cursor
 
 -- the first offset, at or after `x`, at which the query stands
 abbrev pub next_match : Data → Editor → ℕ → Option ℕ
@@ -68,17 +74,23 @@ shown_at e (Some at) = record e { search_state = Replacing; at = at }
 abbrev pub after_showing : Data → Editor → Editor
 after_showing d e = shown_at e (next_match d e e.place)
 
--- a typed character is added to the replacement, unless it is no letter
+-- a typed character goes into the replacement, unless it is no letter
 abbrev pub replacement_typed : Data → Editor → ℕ → Editor
-replacement_typed d e c = if is_no_letter d c then e else with_replacement e (lengthened longest_query (kept e.search_state e.replacement) c)
+replacement_typed d e c =
+    if is_no_letter d c then e else with_replacement e (line_lengthened d longest_query (kept e.search_state (replacement_line e)) c)
 
--- a line end shows the match, but a pasted one does not
-abbrev pub after_replacement_letter : Data → Typing → Editor → ℕ → Editor
-after_replacement_letter d typing e c = if c == 0xA then (if is_paste typing then e else after_showing d e) else replacement_typed d e c
+-- a line end shows the match
+abbrev pub after_replacement_letter : Data → Editor → ℕ → Editor
+after_replacement_letter d e c = if c == 0xA then after_showing d e else replacement_typed d e c
 
--- the replacement loses its last character
-abbrev pub after_shorter_replacement : Editor → Editor
-after_shorter_replacement e = with_replacement e (shortened (kept e.search_state e.replacement))
+-- the replacement loses what an erasure removes, if it removes anything
+abbrev pub after_erasing_replacement : Data → Editor → Erasure → Editor
+after_erasing_replacement d e how =
+    if erases_nothing d how (replacement_line e) then e else with_replacement e (line_shortened d how (replacement_line e))
+
+-- the held text goes into the replacement, up to its first line end or tab
+abbrev pub after_putting_in_replacement : Data → Editor → Editor
+after_putting_in_replacement d e = after_letters (replacement_typed d) e (held_letters d e.held)
 
 -- ---- the match that is shown
 
@@ -86,11 +98,23 @@ after_shorter_replacement e = with_replacement e (shortened (kept e.search_state
 abbrev pub match_stop : Data → Editor → ℕ
 match_stop d e = match_end d (reading e.purpose) (sought d e) e.content.text e.at
 
--- the part of the text in the other rendition (negative, or normal where that is negative): the units of the match while it is
--- shown, else the region
+-- while a query or a replacement is typed: the first match that begins in the unit at the place, if there is one
+abbrev pub found_here : Data → Editor → Option ℕ
+found_here d e =
+    first_between d (reading e.purpose) (sought d e) e.content.text e.place (step_logical (rows d e) Forward e.place)
+
+-- the units of this match; without one the region
+abbrev pub match_or_region : Data → Editor → Option ℕ → ℕ × ℕ
+match_or_region d e None = region e
+match_or_region d e (Some at) = (e.place, match_end d (reading e.purpose) (sought d e) e.content.text at)
+
+-- the part of the text in the other rendition (negative, or normal where that is negative): the units of the match that is shown, or
+-- that the query led to; else the region
 abbrev pub seen_in : Data → Editor → SearchState → ℕ × ℕ
+seen_in d e Off = region e
+seen_in d e Begun = region e
 seen_in d e Replacing = (e.place, match_stop d e)
-seen_in d e _ = region e
+seen_in d e _ = match_or_region d e (found_here d e)
 
 -- this part as the editor's search stands
 abbrev pub seen : Data → Editor → ℕ × ℕ

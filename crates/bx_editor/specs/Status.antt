@@ -1,5 +1,5 @@
 -- The status row: whether there are unsaved changes, the cursor's position, a message, and the prompt of a search or of a
--- question. `d` is Unicode's data, `e` the editor.
+-- question with what is typed there; at its end the file's name and the direction of the cursor's paragraph. `d` is Unicode's data, `e` the editor.
 use Rattle.std.specs.Prelude.{ℕ, ◌+◌, nat_le, Bool, List, [], ◌++◌, Option, Some, None, codes, decimal, if◌then◌else◌, ◌==◌, length, chars}
 use Rattle.std.specs.Prelude.{slice_range}
 use Rattle.bx_common.specs.declared.base.Base.TheVariants.{Auto, Ltr, Rtl}
@@ -13,13 +13,19 @@ use Rattle.bx_view.specs.declared.moves.Logical.TheVariants.{Forward}
 use Rattle.bx_grid.specs.Columns.{Col}
 use Rattle.bx_rows.specs.RowPicture.{Glyph}
 pub use Rattle.bx_rows.specs.RowPicture.{letter_glyphs}
-pub use Rattle.bx_document.specs.Drawing.{glyph_row, query_glyphs, typed_glyphs}
+pub use Rattle.bx_document.specs.Drawing.{glyph_row}
+use Rattle.bx_document.specs.InputLine.{column_shown, glyphs_or, input_line, line_glyphs}
+pub use Rattle.bx_document.specs.StatusRow.{name_glyphs, with_some_end}
+use Rattle.bx_paragraph.specs.Slots.{reads_on}
+use Rattle.bx_paragraph.specs.declared.moves.Visual.TheVariants.{Left}
+use Rattle.bx_view.specs.TextRows.{row_at, row_of}
+use Rattle.bx_editor.specs.InputLines.{input_line_of}
 use Rattle.bx_document.specs.PlaceLevel.{place_level}
 use Rattle.bx_editor.specs.declared.search_state.SearchPurpose.{SearchPurpose}
 use Rattle.bx_editor.specs.declared.search_state.SearchPurpose.TheVariants.{Find, Replace}
 use Rattle.bx_editor.specs.declared.message.Message.{Message}
 use Rattle.bx_editor.specs.declared.message.Message.TheVariants.{Saved, SaveFailed, TextFull, NothingToUndo, NothingToRedo, Unsaved, Direction, MarkSet, MarkOff}
-use Rattle.bx_editor.specs.declared.message.Message.TheVariants.{Copied, LineCopied, NothingToCopy, NothingToPut, ViewOnly, FromStart, FromEnd, NotFound, Help}
+use Rattle.bx_editor.specs.declared.message.Message.TheVariants.{Copied, LineCopied, NothingToCopy, NothingToPut, ViewOnly, FromStart, FromEnd, NotFound, NoLetter, Help}
 use Rattle.bx_editor.specs.declared.message.Message.TheVariants.{MoreHelp, MoreThanOneLine, NoSuchCharacter, Pasting, Replaced, Told, TooLongForClipboard, Notice}
 use Rattle.bx_editor.specs.declared.search_state.SearchState.{SearchState}
 use Rattle.bx_editor.specs.declared.search_state.SearchState.TheVariants.{Off, Begun, Typed, WithBegun, WithTyped, Replacing}
@@ -66,17 +72,18 @@ message_text (Direction Auto) = codes "direction auto"
 message_text (Direction Ltr) = codes "direction ltr"
 message_text (Direction Rtl) = codes "direction rtl"
 message_text MarkSet = codes "mark set"
-message_text MarkOff = codes "mark off"
+message_text MarkOff = codes "mark cleared"
 message_text Copied = codes "copied"
 message_text LineCopied = codes "line copied"
 message_text NothingToCopy = codes "nothing to copy"
-message_text NothingToPut = codes "nothing to put"
+message_text NothingToPut = codes "nothing to paste"
 message_text ViewOnly = codes "view only"
 message_text FromStart = codes "from the start"
 message_text FromEnd = codes "from the end"
 message_text NotFound = codes "not found"
-message_text Help = codes "^S save ^Q quit ^Z undo ^W find ^@ mark ^X cut ^C copy ^V put F2 turn"
-message_text MoreHelp = codes "F4 replace ^G line ^K insert ^T tell ^Y redo ^R back ^L paint"
+message_text NoLetter = codes "no letter to find"
+message_text Help = codes "^S save ^Q quit ^Z undo ^F find ^X cut ^C copy ^V paste F2 ltr/rtl"
+message_text MoreHelp = codes "F4 replace ^G line ^K insert ^T info ^Y redo ^B back ^A all ^O save as"
 message_text MoreThanOneLine = codes "more than one line"
 message_text NoSuchCharacter = codes "no such character"
 message_text Pasting = codes "pasting"
@@ -107,6 +114,8 @@ status_text d e =
     status_line e.changed (paragraph_number d e.content.text e.place + 1) (unit_number d e.content.text e.place)
     ++ message_part (told_at_place d e) e.message
 
+-- ---- the words of a prompt
+
 -- the prompt of a search: before the query, before the replacement, or for the match that is shown
 abbrev pub query_prompt : SearchPurpose → List ℕ
 query_prompt Find = codes " find: "
@@ -118,32 +127,63 @@ search_prompt purpose Begun = query_prompt purpose
 search_prompt purpose Typed = query_prompt purpose
 search_prompt purpose WithBegun = codes " with: "
 search_prompt purpose WithTyped = codes " with: "
-search_prompt purpose Replacing = codes " Enter replace ^W next F4 all ^C end"
-
--- behind a search's prompt the query or the replacement
-abbrev pub search_glyphs : Data → List ℕ → List ℕ → SearchState → List Glyph
-search_glyphs d query other Begun = query_glyphs d query
-search_glyphs d query other Typed = query_glyphs d query
-search_glyphs d query other WithBegun = query_glyphs d other
-search_glyphs d query other WithTyped = query_glyphs d other
-search_glyphs d query other _ = []
+search_prompt purpose Replacing = codes " Enter replace F3 next F4 rest ^C end"
 
 -- the prompt of a question
 abbrev pub prompt_text : Prompt → List ℕ
 prompt_text prompts.Off = []
 prompt_text prompts.Line = codes " line: "
-prompt_text prompts.Name = codes " insert: "
+prompt_text prompts.Name = codes " insert: i I f isolate P end l r a mark n j joiner e E o O p u code"
 prompt_text prompts.Code = codes " insert: U+"
+prompt_text prompts.File = codes " save as: "
+prompt_text prompts.Overwrite = codes " overwrite it? y or n"
 
--- a question has its prompt and the answer as it was typed; without a question the search has its prompt and its text
-abbrev pub prompt_glyphs : Data → Editor → Prompt → List Glyph
-prompt_glyphs d e prompts.Off = letter_glyphs (search_prompt e.purpose e.search_state) ++ search_glyphs d e.query e.replacement e.search_state
-prompt_glyphs d e prompt = letter_glyphs (prompt_text prompt) ++ typed_glyphs e.answer
+-- the prompt of a question, or without one that of a search
+abbrev pub prompt_words : Editor → Prompt → List ℕ
+prompt_words e prompts.Off = search_prompt e.purpose e.search_state
+prompt_words e prompt = prompt_text prompt
 
--- the glyphs of an editor's status row from left to right
+-- the words of the row: what is told, and the prompt
+abbrev pub row_text : Data → Editor → List ℕ
+row_text d e = status_text d e ++ prompt_words e e.prompt
+
+-- ---- the input line behind them, and the row's end
+
+-- the glyphs of an input line behind a text, if there is one
+abbrev pub typed_glyphs : Data → Editor → List ℕ → Option (List ℕ) → List Glyph
+typed_glyphs d e text None = []
+typed_glyphs d e text (Some line) = glyphs_or (line_glyphs d line) (input_line d e.width (length text) line e.input_cursor)
+
+-- the column of the cursor in an input line behind a text, if there is one and it has room
+abbrev pub typed_column : Data → Editor → List ℕ → Option (List ℕ) → Option ℕ
+typed_column d e text None = None
+typed_column d e text (Some line) = column_shown (input_line d e.width (length text) line e.input_cursor)
+
+-- a text, and behind it the input line
+abbrev pub left_side : Data → Editor → List ℕ → List Glyph
+left_side d e text = letter_glyphs text ++ typed_glyphs d e text (input_line_of e)
+
+-- the place's paragraph is read from right to left
+abbrev pub is_rtl : Data → Editor → Bool
+is_rtl d e = reads_on Left (row_at (rows d e) (row_of (rows d e) e.place)).row
+
+-- what stands at the row's end, in a session with a name: the name's glyphs, and a direction
+abbrev pub name_end : Data → Bool → Option (List ℕ) → Option (List Glyph × Bool)
+name_end d rtl None = None
+name_end d rtl (Some name) = Some (name_glyphs d name, rtl)
+
+-- the glyphs of a status row from left to right
+abbrev pub row_glyphs : Data → Editor → List ℕ → Bool → List Glyph
+row_glyphs d e text rtl = with_some_end e.width (left_side d e text) (name_end d rtl e.name)
+
+-- the glyphs of an editor's status row
 abbrev pub status_glyphs : Data → Editor → List Glyph
-status_glyphs d e = letter_glyphs (status_text d e) ++ prompt_glyphs d e e.prompt
+status_glyphs d e = row_glyphs d e (row_text d e) (is_rtl d e)
 
 -- the columns of the status row, which only a window of at least two rows has
 abbrev pub status_columns : Data → Editor → List Col
 status_columns d e = if nat_le 2 e.height then glyph_row e.width (status_glyphs d e) else []
+
+-- the column of the cursor in the status row, if it is there
+abbrev pub input_column : Data → Editor → Option ℕ
+input_column d e = if nat_le 2 e.height then typed_column d e (row_text d e) (input_line_of e) else None
