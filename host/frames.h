@@ -21,7 +21,8 @@ enum frame_letter {
     FRAME_JOURNAL = 'j',
     FRAME_REPLAYED = 'r',
     FRAME_END = 'e',
-    /* A save, from the program. BEGIN and COMMIT are answered; PIECE, bytes of the text, is not. */
+    /* A save, from the program. BEGIN and COMMIT are answered; PIECE, bytes of the text, is not. BEGIN has no bytes; or `o`: the save may
+     * go over the change of FILE that was told last; or `n` and a path: it goes to that path, where nothing may be. */
     FRAME_BEGIN = 'B',
     FRAME_PIECE = 'P',
     FRAME_COMMIT = 'C',
@@ -42,6 +43,7 @@ enum save_cause {
     SAVE_NOT_PLAIN,
     SAVE_CUT_OFF,
     SAVE_OTHER,
+    SAVE_EXISTS,
 };
 
 /* What the program shows in its last row, by number. NOTICE_NONE shows nothing, but like all input it makes the program try its journal

@@ -1,1 +1,2 @@
+pub mod Elsewhere
 pub mod Examples

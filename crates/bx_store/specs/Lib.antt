@@ -1,3 +1,4 @@
 pub mod Asking
 pub mod Faults
+pub mod Kept
 pub mod Stores

@@ -19,7 +19,7 @@ pub enum SaveCause {
     /// The file would be larger than the system or a limit allows.
     TooLarge,
     OutOfMemory,
-    /// Another program changed the file; the next save overwrites it.
+    /// Another program changed the file.
     Changed,
     /// A folder, a device, a pipe or a socket took the file's place.
     NotPlain,
@@ -27,6 +27,8 @@ pub enum SaveCause {
     CutOff,
     /// Any other fault.
     Other,
+    /// Something has the new name already.
+    Exists,
 }
 
 impl SaveCause {
@@ -41,6 +43,7 @@ impl SaveCause {
             ErrorKind::ReadOnlyFilesystem => SaveCause::ReadOnly,
             ErrorKind::FileTooLarge => SaveCause::TooLarge,
             ErrorKind::OutOfMemory => SaveCause::OutOfMemory,
+            ErrorKind::AlreadyExists => SaveCause::Exists,
             _ => SaveCause::Other,
         }
     }
@@ -57,6 +60,7 @@ impl SaveCause {
             7 => SaveCause::Changed,
             8 => SaveCause::NotPlain,
             9 => SaveCause::CutOff,
+            11 => SaveCause::Exists,
             _ => SaveCause::Other,
         }
     }
@@ -72,10 +76,11 @@ impl SaveCause {
             SaveCause::ReadOnly => "read-only disk",
             SaveCause::TooLarge => "file too large",
             SaveCause::OutOfMemory => "out of memory",
-            SaveCause::Changed => "file changed on disk, ^S overwrites it",
+            SaveCause::Changed => "file changed on disk",
             SaveCause::NotPlain => "not a plain file",
             SaveCause::CutOff => "file cut off, its whole text is in a .bx file beside it",
             SaveCause::Other => "disk error",
+            SaveCause::Exists => "file exists",
         }
     }
 }

@@ -2,9 +2,11 @@
 #![tactic(auto)]
 
 mod cause;
+mod change;
 mod faults;
 mod file_store;
 mod host_store;
+mod kept;
 mod memory_store;
 mod store;
 

@@ -53,9 +53,12 @@ impl From<io::Error> for StoreFault {
     }
 }
 
-/// A place to save a text. A save is `begin`, `put` for each piece of the text, and `commit`. The contents change only when
-/// `commit` returns Ok; they are then the pieces put since the last `begin`, joined. An Err ends the save and counts one
-/// failure, with its fault as the latest; counts saturate at the greatest u64.
+/// A place to save a text. A save is `begin`, `put` for each piece of the text, and `commit`. `begin_over` and `begin_as` begin a
+/// save too. The contents change only when `commit` returns Ok; they are then the pieces put since the save began, joined. An
+/// Err ends the save and counts one failure, with its fault as the latest; counts saturate at the greatest u64.
+///
+/// A store that finds that another program changed the text answers `begin` with the cause `Changed`, as often as it is asked.
+/// A save under a new name, if it succeeds, leads all later saves to that name; if it fails, they go where they went.
 pub trait Store {
     ghost use Rattle.std.specs.Prelude.{◌≡◌, ℕ, Bool, true, List, Option, IfErr, OnOk, OnErr};
     ghost use Rattle.bx_store.specs.Stores.{no_bytes, with_bytes};
@@ -65,10 +68,10 @@ pub trait Store {
     /// The stored bytes; None if the store does not model them.
     ghost contents: { Self → Option (List ℕ) };
 
-    /// The bytes put since the last `begin`; None if the store does not model them.
+    /// The bytes put since the save began; None if the store does not model them.
     ghost draft: { Self → Option (List ℕ) };
 
-    /// Whether a save is in progress: `begin` returned Ok, and since then no call failed and no `commit` came.
+    /// Whether a save is in progress: it began with Ok, and since then no call failed and no `commit` came.
     ghost has_draft: { Self → Bool };
 
     /// The failed calls.
@@ -76,6 +79,23 @@ pub trait Store {
 
     /// Begins a save and discards the draft of an unfinished one.
     fn begin(&mut self) -> Result<(), StoreFault>
+        ensures has_draft { OnOk result (has_draft self.new ≡ true) }
+        ensures draft { OnOk result (draft self.new ≡ no_bytes (contents self.old)) }
+        ensures stored { contents self.new ≡ contents self.old }
+        ensures no_failure { OnOk result (faults self.new ≡ faults self.old) }
+        ensures failure { IfErr result (λ fault. faults self.new ≡ with_fault fault (faults self.old)) };
+
+    /// Begins a save, as `begin` does, over the change by another program that was answered last. A later change is answered anew.
+    fn begin_over(&mut self) -> Result<(), StoreFault>
+        ensures has_draft { OnOk result (has_draft self.new ≡ true) }
+        ensures draft { OnOk result (draft self.new ≡ no_bytes (contents self.old)) }
+        ensures stored { contents self.new ≡ contents self.old }
+        ensures no_failure { OnOk result (faults self.new ≡ faults self.old) }
+        ensures failure { IfErr result (λ fault. faults self.new ≡ with_fault fault (faults self.old)) };
+
+    /// Begins a save under a new name. What is there already is never overwritten: the cause is `Exists` then, here or at the
+    /// commit.
+    fn begin_as(&mut self, name: &str) -> Result<(), StoreFault>
         ensures has_draft { OnOk result (has_draft self.new ≡ true) }
         ensures draft { OnOk result (draft self.new ≡ no_bytes (contents self.old)) }
         ensures stored { contents self.new ≡ contents self.old }

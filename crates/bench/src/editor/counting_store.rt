@@ -36,6 +36,14 @@ impl Store for CountingStore {
         Ok(())
     }
 
+    fn begin_over(&mut self) -> Result<(), StoreFault> {
+        Ok(())
+    }
+
+    fn begin_as(&mut self, _name: &str) -> Result<(), StoreFault> {
+        Ok(())
+    }
+
     fn put(&mut self, bytes: &[u8]) -> Result<(), StoreFault> {
         self.count = self.count.wrapping_add(bytes.len());
         Ok(())
