@@ -12,14 +12,14 @@ use Rattle.bx_editor.specs.declared.input_line.Erasure.TheVariants.{LastCharacte
 use Rattle.bx_editor.specs.questions.Answers.{asked, is_line_letter}
 use Rattle.bx_editor.specs.questions.KeyLetters.{code_letter, name_letter}
 use Rattle.bx_editor.specs.questions.Names.{coded, is_code_letter, asks_code, closing, named}
-use Rattle.bx_editor.specs.InputLines.{InputLine, erases_nothing, held_letters, is_no_letter, line_lengthened, line_shortened, line_with}
+use Rattle.bx_editor.specs.InputLines.{erases_nothing, is_no_letter, line_lengthened, line_shortened, line_with}
 use Rattle.bx_editor.specs.Saving.{after_naming, longest_name}
-use Rattle.bx_editor.specs.Search.{after_letters}
 use Rattle.bx_editor.specs.declared.undo_groups.typing.Typing.{Typing}
 use Rattle.bx_editor.specs.undo_groups.Groups.{after_insertion, kind_of}
 use Rattle.bx_text.specs.Edits.{fits, fits_both}
 use Rattle.bx_view.specs.Numbers.{place_of, paragraph_number}
 use Rattle.bx_editor.specs.declared.message.Message.TheVariants.{NoSuchCharacter, TextFull, MoreThanOneLine}
+use Rattle.bx_editor.specs.LineState.{LineState}
 use Rattle.bx_editor.specs.Editor.{Editor, rows_of, with_insertion, with_place, with_typing, with_edit}
 use Rattle.bx_editor.specs.Putting.{is_paste}
 use Rattle.bx_editor.specs.Region.{is_empty, region, bytes_in}
@@ -70,10 +70,10 @@ abbrev pub without_prompt : Editor → Editor
 without_prompt e = record e { prompt = Off }
 
 -- the answer with the cursor in it
-abbrev pub answer_line : Editor → InputLine
+abbrev pub answer_line : Editor → LineState
 answer_line e = line_with e.answer e.input_cursor
 
-abbrev pub with_answer : Editor → InputLine → Editor
+abbrev pub with_answer : Editor → LineState → Editor
 with_answer e l = record e { answer = l.text; input_cursor = l.cursor }
 
 -- a character goes into the answer, unless it has as many as it may
@@ -179,7 +179,3 @@ after_erasing_answer d prompt e how =
     if is_code_prompt prompt && is_of_last how && (length e.answer == 0)
     then record e { prompt = Name }
     else if erases_nothing d how (answer_line e) then e else with_answer e (line_shortened d how (answer_line e))
-
--- the held text goes into the answer, up to its first line end or tab
-abbrev pub after_putting_in_answer : Data → Option StoreFault → Prompt → Editor → Editor
-after_putting_in_answer d fault prompt e = after_letters (after_answer_letter d fault prompt) e (held_letters d e.held)

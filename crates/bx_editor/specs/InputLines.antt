@@ -22,52 +22,49 @@ use Rattle.bx_editor.specs.declared.search_state.SearchState.TheVariants as sear
 use Rattle.bx_editor.specs.declared.undo_groups.typing.Typing.{Typing}
 use Rattle.bx_editor.specs.declared.undo_groups.typing.Typing.TheVariants.{Off, Paste, Spent}
 use Rattle.bx_editor.specs.Editor.{Editor, with_typing}
+use Rattle.bx_editor.specs.LineState.{LineState}
 use Rattle.bx_editor.specs.questions.Answers.{shortened}
 
 -- ---- a line and its cursor
 
-pub record InputLine : Type 0 where
-  pub text : List ℕ
-  pub cursor : ℕ
-
-abbrev pub line_with : List ℕ → ℕ → InputLine
+abbrev pub line_with : List ℕ → ℕ → LineState
 line_with text cursor = record { text = text; cursor = cursor }
 
 -- a line with its cursor at its end
-abbrev pub line_at_end : List ℕ → InputLine
+abbrev pub line_at_end : List ℕ → LineState
 line_at_end text = line_with text (length text)
 
 -- the cursor stands at the line's end
-abbrev pub is_at_end : InputLine → Bool
+abbrev pub is_at_end : LineState → Bool
 is_at_end l = l.cursor == length l.text
 
 -- the bytes from `start` to `stop` give way to others, with the cursor at the first place at or after their end
-abbrev pub line_edited : Data → InputLine → ℕ → ℕ → List ℕ → InputLine
+abbrev pub line_edited : Data → LineState → ℕ → ℕ → List ℕ → LineState
 line_edited d l start stop new =
     let text = splice l.text start stop new in line_with text (place_from (line_rows d text) (start + length new))
 
 -- a character goes in at the cursor, unless the line has `limit` characters
-abbrev pub line_lengthened : Data → ℕ → InputLine → ℕ → InputLine
+abbrev pub line_lengthened : Data → ℕ → LineState → ℕ → LineState
 line_lengthened d limit l c = if nat_lt (length (chars l.text)) limit then line_edited d l l.cursor l.cursor (encode_utf8 c) else l
 
 -- the part that an erasure removes: the last character before the cursor, the unit behind it, what stands back to a word's start, or on
 -- to the next one
-abbrev pub erased_part : Data → Erasure → InputLine → ℕ × ℕ
+abbrev pub erased_part : Data → Erasure → LineState → ℕ × ℕ
 erased_part d LastCharacter l = (length (shortened (take l.cursor l.text)), l.cursor)
 erased_part d Unit l = (l.cursor, step_logical (line_rows d l.text) logical.Forward l.cursor)
 erased_part d WordBack l = (step_word d l.text logical.Back l.cursor, l.cursor)
 erased_part d WordOn l = (l.cursor, step_word d l.text logical.Forward l.cursor)
 
 -- an erasure removes nothing
-abbrev pub erases_nothing : Data → Erasure → InputLine → Bool
+abbrev pub erases_nothing : Data → Erasure → LineState → Bool
 erases_nothing d how l = (erased_part d how l).0 == (erased_part d how l).1
 
 -- the line without what an erasure removes
-abbrev pub line_shortened : Data → Erasure → InputLine → InputLine
+abbrev pub line_shortened : Data → Erasure → LineState → LineState
 line_shortened d how l = line_edited d l (erased_part d how l).0 (erased_part d how l).1 []
 
 -- the cursor's place after a move
-abbrev pub line_moved : Data → Move → InputLine → ℕ
+abbrev pub line_moved : Data → Move → LineState → ℕ
 line_moved d m l = moved d l.text 500 (line_rows d l.text) m l.cursor
 
 -- ---- the line that a prompt shows
@@ -116,6 +113,6 @@ after_taking d typing c e new = with_typing (if is_taken d typing c then new els
 
 -- ---- what is put in
 
--- the characters of the held text that go into an input line: those of its first line, up to a tab
-abbrev pub held_letters : Data → List ℕ → List ℕ
-held_letters d held = before_first (λ c. (c == 0xA) || is_no_letter d c) (chars held)
+-- the characters of a text that go into an input line: those of its first line, up to a tab
+abbrev pub first_line : Data → List ℕ → List ℕ
+first_line d text = before_first (λ c. (c == 0xA) || is_no_letter d c) (chars text)

@@ -23,14 +23,14 @@ use Rattle.bx_editor.specs.declared.search_state.SearchState.{SearchState}
 use Rattle.bx_editor.specs.declared.search_state.SearchState.TheVariants.{Off, Begun, Typed, WithBegun, WithTyped, Replacing}
 use Rattle.bx_editor.specs.declared.questions.answers.Prompt.{Prompt}
 use Rattle.bx_editor.specs.declared.questions.answers.Prompt.TheVariants as prompts
-use Rattle.bx_view.specs.declared.moves.Move.{Move}
-use Rattle.bx_view.specs.declared.moves.Move.TheVariants as moves
-use Rattle.bx_editor.specs.declared.input_line.Erasure.{Erasure}
-use Rattle.bx_editor.specs.declared.input_line.Erasure.TheVariants.{LastCharacter, Unit, WordBack, WordOn}
+use Rattle.bx_editor.specs.declared.answer.Answer.{Answer}
+use Rattle.bx_editor.specs.declared.answer.Answer.TheVariants.{Letter, Erases, Moves, PutsIn, Passes, GoesBack, Next, Previous, Replaces, Scrolls, Stays, Ends}
+use Rattle.bx_editor.specs.Answering.{answer_of, without_line}
 use Rattle.bx_editor.specs.declared.undo_groups.typing.Typing.{Typing}
 use Rattle.bx_editor.specs.declared.undo_groups.typing.Typing.TheVariants.{Paste, Spent}
-use Rattle.bx_editor.specs.Asking.{after_answer_letter, after_erasing_answer, after_name_key, after_putting_in_answer, without_prompt}
+use Rattle.bx_editor.specs.Asking.{after_answer_letter, after_erasing_answer, after_name_key, without_prompt}
 use Rattle.bx_editor.specs.InputLines.{after_taking}
+use Rattle.bx_editor.specs.LinePuts.{after_line_put}
 use Rattle.bx_editor.specs.Saving.{Saving, after_deciding, can_save, confirms, own_saving, saving_over, saving_under}
 use Rattle.bx_editor.specs.Editor.{Editor, cleared, rows, text_height, with_notice, with_size, with_typing}
 use Rattle.bx_editor.specs.Effects.{Effect, Types, BeginsLine, Puts, Removes, RemovesWord, Steps, StepsGroup, Goes, GoesByRows, GoesToRowEnd, Clicks}
@@ -43,8 +43,8 @@ use Rattle.bx_editor.specs.RowMoves.{after_wheel, goal_behind}
 use Rattle.bx_editor.specs.Scrolling.{page_rows}
 use Rattle.bx_editor.specs.Putting.{after_paste_end, after_paste_start, after_pasted_letter, is_paste, paste_ended, only_paste}
 use Rattle.bx_editor.specs.Replacing.{after_asking_replacement, after_ending, after_erasing_replacement, after_match_letter, after_passing_over}
-use Rattle.bx_editor.specs.Replacing.{after_putting_in_replacement, after_replacement_letter, after_replacing_all, after_showing, after_sought_letter}
-use Rattle.bx_editor.specs.Search.{after_erasing_query, after_find, after_find_back, after_giving_up, after_moving_in, after_putting_in_query, without_search}
+use Rattle.bx_editor.specs.Replacing.{after_replacement_letter, after_replacing_all, after_showing, after_sought_letter}
+use Rattle.bx_editor.specs.Search.{after_erasing_query, after_find, after_find_back, after_giving_up, after_moving_in, without_search}
 use Rattle.bx_editor.specs.Region.{soft_behind}
 
 -- ---- outside a search and a question
@@ -135,80 +135,13 @@ allowed_effect d e key = if e.read_only && changes_text key then Refuses else ef
 abbrev pub after_pressing : Data → Option StoreFault → Before → Editor → Key → Editor
 after_pressing d fault was e key = by d fault was e (allowed_effect d e key)
 
--- ---- where something is asked: what a key means
-
--- A character is typed; in an input line something is erased, the cursor moves, the held text is put in, or nothing is done; all is given
--- up; the next or the previous match is sought; matches are replaced; the view moves; what is typed stays; or the key has its usual
--- effect.
-pub data Answer : Type 0 where
-  Letter : ℕ → Answer
-  Erases : Erasure → Answer
-  Moves : Move → Answer
-  PutsIn : Answer
-  Passes : Answer
-  GoesBack : Answer
-  Next : Answer
-  Previous : Answer
-  Replaces : Answer
-  Scrolls : Vertical → Answer
-  Stays : Answer
-  Ends : Answer
-
--- what each key means where an input line is shown; in a question Next, Previous and Replaces are as Ends
-abbrev pub answer_of : Key → Answer
-answer_of (Insert c) = Letter c
-answer_of NewLine = Letter 0xA
-answer_of Erase = Erases LastCharacter
-answer_of ErasePoint = Erases LastCharacter
-answer_of Delete = Erases Unit
-answer_of EraseWord = Erases WordBack
-answer_of DeleteWord = Erases WordOn
-answer_of Back = Moves (moves.Logical logical.Back)
-answer_of Forward = Moves (moves.Logical logical.Forward)
-answer_of Left = Moves (moves.Visual visual.Left)
-answer_of Right = Moves (moves.Visual visual.Right)
-answer_of WordLeft = Moves (moves.WordTowards visual.Left)
-answer_of WordRight = Moves (moves.WordTowards visual.Right)
-answer_of RowHome = Moves moves.RowHome
-answer_of RowEnd = Moves moves.RowEnd
-answer_of Put = PutsIn
-answer_of Up = Passes
-answer_of Down = Passes
-answer_of LineUp = Passes
-answer_of LineDown = Passes
-answer_of Select = Passes
-answer_of Mark = Passes
-answer_of Cut = Passes
-answer_of Quit = GoesBack
-answer_of Copy = GoesBack
-answer_of Cancel = GoesBack
-answer_of Find = Next
-answer_of FindNext = Next
-answer_of FindBack = Previous
-answer_of FindPrevious = Previous
-answer_of Replace = Replaces
-answer_of ScrollBack = Scrolls ways.Up
-answer_of ScrollOn = Scrolls ways.Down
-answer_of Repaint = Stays
-answer_of _ = Ends
-
--- what a key means where something is asked without an input line: what edits one has its usual effect there, but a character or a unit
--- is not erased
-abbrev pub without_line : Answer → Answer
-without_line (Erases WordBack) = Ends
-without_line (Erases WordOn) = Ends
-without_line (Moves m) = Ends
-without_line PutsIn = Ends
-without_line Passes = Ends
-without_line answer = answer
-
 -- ---- while the query is asked for: a key answers, or ends the search and does what it always does
 
 abbrev pub answered : Data → Option StoreFault → Before → Editor → Key → Answer → Editor
 answered d fault was e key (Letter c) = after_taking d was.typing c e (after_sought_letter d e c)
 answered d fault was e key (Erases how) = after_erasing_query d e how
 answered d fault was e key (Moves m) = after_moving_in d e e.query m
-answered d fault was e key PutsIn = after_putting_in_query d e
+answered d fault was e key PutsIn = after_line_put d e
 answered d fault was e key Passes = e
 answered d fault was e key GoesBack = after_giving_up e
 answered d fault was e key Next = after_find d e
@@ -225,7 +158,7 @@ abbrev pub answered_replacement : Data → Option StoreFault → Before → Edit
 answered_replacement d fault was e key (Letter c) = after_taking d was.typing c e (after_replacement_letter d e c)
 answered_replacement d fault was e key (Erases how) = after_erasing_replacement d e how
 answered_replacement d fault was e key (Moves m) = after_moving_in d e e.replacement m
-answered_replacement d fault was e key PutsIn = after_putting_in_replacement d e
+answered_replacement d fault was e key PutsIn = after_line_put d e
 answered_replacement d fault was e key Passes = e
 answered_replacement d fault was e key GoesBack = after_giving_up e
 answered_replacement d fault was e key Next = by d fault was (without_search e) (Seeks purposes.Find)
@@ -267,7 +200,7 @@ abbrev pub answered_question : Data → Option StoreFault → Before → Editor 
 answered_question d fault was e key (Letter c) = after_taking d was.typing c e (after_answer_letter d fault e.prompt e c)
 answered_question d fault was e key (Erases how) = after_erasing_answer d e.prompt e how
 answered_question d fault was e key (Moves m) = after_moving_in d e e.answer m
-answered_question d fault was e key PutsIn = after_putting_in_answer d fault e.prompt e
+answered_question d fault was e key PutsIn = after_line_put d e
 answered_question d fault was e key Passes = e
 answered_question d fault was e key GoesBack = without_prompt e
 answered_question d fault was e key (Scrolls way) = after_wheel d was e way

@@ -2,12 +2,14 @@ pub mod Clicks
 pub mod Editor
 pub mod Settings
 pub mod Region
+pub mod LineState
 pub mod InputLines
 pub mod Search
 pub mod Erasing
 pub mod Putting
 pub mod Replacing
 pub mod Saving
+pub mod SavingStates
 pub mod Asking
 pub mod Answers
 pub mod Prompts
@@ -17,6 +19,8 @@ pub mod Before
 pub mod RowMoves
 pub mod Pointing
 pub mod Effects
+pub mod LinePuts
+pub mod Answering
 pub mod Keys
 pub mod Replay
 pub mod Picture

@@ -1,6 +1,6 @@
 -- The picture of an editor's state: the text rows from the top on, the status row, and the cursor, whose row and column count from
 -- 0. `d` is Unicode's data, `e` the editor, `top` the offset whose row is shown first.
-use Rattle.std.specs.Prelude.{◌≡◌, ℕ, ◌+◌, ◌-◌, ◌*◌, List, ◌++◌, replicate, if◌then◌else◌}
+use Rattle.std.specs.Prelude.{◌≡◌, ℕ, ◌+◌, ◌-◌, ◌*◌, List, ◌++◌, replicate, Option, Some, None, if◌then◌else◌}
 use Rattle.bx_view.specs.Cells.{HasCell, HasOneSlot}
 use Rattle.bx_view.specs.TextRows.{IsPlace, TextRow, row_of, cell_of}
 use Rattle.bx_view.specs.Top.{follow, shown_rows}
@@ -13,22 +13,27 @@ use Rattle.bx_editor.specs.Editor.{Editor, rows, text_height, with_top}
 use Rattle.bx_editor.specs.declared.scrolling.Scroll.{Scroll}
 use Rattle.bx_editor.specs.Replacing.{seen}
 use Rattle.bx_editor.specs.Scrolling.{moved_top}
-use Rattle.bx_editor.specs.Status.{status_columns}
+use Rattle.bx_editor.specs.Status.{input_column, status_columns}
 
 -- a picture of spaces, with the cursor in its first column
 abbrev pub blank_picture : ℕ → ℕ → PictureState
 blank_picture height width = record { height = height; width = width; columns = replicate (height * width) blank; row = 0; column = 0 }
 
+-- a picture whose cursor is in the status row, in a column from 1, if it is there
+abbrev pub with_cursor : Option ℕ → PictureState → PictureState
+with_cursor None p = p
+with_cursor (Some column) p = record p { row = p.height - 1; column = column - 1 }
+
 -- the picture of a text whose rows are `all`, from the row of the offset `top` on, with the region, or the match that is shown, in
--- the other rendition: negative, or normal where that is negative
+-- the other rendition: negative, or normal where that is negative. The cursor is in the input line, if there is one and it has room
 abbrev pub text_picture : Data → Editor → ℕ → List TextRow → PictureState
-text_picture d e top all = record {
+text_picture d e top all = with_cursor (input_column d e) (record {
   height = e.height;
   width = e.width;
   columns = region_rows d e.width (seen d e) (text_height e.height) (shown_rows all top (text_height e.height)) ++ status_columns d e;
   row = row_of all e.place - row_of all top;
   column = cell_of e.width all e.place - 1;
-}
+})
 
 -- the picture, blank once Quit has ended the editor
 abbrev pub picture : Data → Editor → ℕ → PictureState

@@ -14,13 +14,14 @@ use Rattle.bx_editor.specs.declared.search_state.SearchPurpose.TheVariants.{Find
 use Rattle.bx_editor.specs.declared.message.Message.TheVariants.{Replaced, TextFull}
 use Rattle.bx_editor.specs.declared.search_state.SearchState.{SearchState}
 use Rattle.bx_editor.specs.declared.search_state.SearchState.TheVariants.{Off, Begun, Typed, WithBegun, WithTyped, Replacing}
+use Rattle.bx_editor.specs.LineState.{LineState}
 use Rattle.bx_editor.specs.Editor.{Editor, rows, with_exchange}
-use Rattle.bx_editor.specs.InputLines.{InputLine, erases_nothing, held_letters, line_lengthened, line_shortened, line_with}
+use Rattle.bx_editor.specs.InputLines.{erases_nothing, line_lengthened, line_shortened, line_with}
 use Rattle.bx_editor.specs.declared.input_line.Erasure.{Erasure}
 use Rattle.bx_editor.specs.Putting.{is_paste}
 use Rattle.bx_editor.specs.Region.{region}
 use Rattle.bx_editor.specs.InputLines.{is_no_letter}
-use Rattle.bx_editor.specs.Search.{after_letter, after_letters, kept, landed, landing_from, nothing_sought, reading, sought, without_search}
+use Rattle.bx_editor.specs.Search.{after_letter, kept, landed, landing_from, nothing_sought, reading, sought, without_search}
 use Rattle.bx_editor.specs.Search.{longest_query}
 
 -- ---- the question for the replacement
@@ -54,11 +55,11 @@ after_sought_letter d e c = if c == 0xA then after_sought_end d e else after_let
 -- ---- the replacement
 
 -- the replacement was typed
-abbrev pub with_replacement : Editor → InputLine → Editor
+abbrev pub with_replacement : Editor → LineState → Editor
 with_replacement e l = record e { replacement = l.text; input_cursor = l.cursor; search_state = WithTyped }
 
 -- the replacement with the cursor in it
-abbrev pub replacement_line : Editor → InputLine
+abbrev pub replacement_line : Editor → LineState
 replacement_line e = line_with e.replacement e.input_cursor
 
 -- the first offset, at or after `x`, at which the query stands
@@ -87,10 +88,6 @@ after_replacement_letter d e c = if c == 0xA then after_showing d e else replace
 abbrev pub after_erasing_replacement : Data → Editor → Erasure → Editor
 after_erasing_replacement d e how =
     if erases_nothing d how (replacement_line e) then e else with_replacement e (line_shortened d how (replacement_line e))
-
--- the held text goes into the replacement, up to its first line end or tab
-abbrev pub after_putting_in_replacement : Data → Editor → Editor
-after_putting_in_replacement d e = after_letters (replacement_typed d) e (held_letters d e.held)
 
 -- ---- the match that is shown
 

@@ -1,9 +1,8 @@
 -- The keys of a search. Offsets and places count bytes of the text. `d` is Unicode's data, `e` the editor, `x` an offset, `c` a
 -- character.
-use Rattle.std.specs.Prelude.{ℕ, ◌==◌, nat_lt, List, [], ◌∷◌, length, find, fold, chars}
+use Rattle.std.specs.Prelude.{ℕ, ◌==◌, nat_lt, List, [], ◌∷◌, length, find, chars}
 use Rattle.std.specs.Prelude.{Option, Some, None, unwrap_or, if◌then◌else◌}
 use Rattle.bx_ucd.specs.Data.{Data}
-pub use Rattle.bx_editor.specs.questions.Answers.{lengthened, shortened}
 use Rattle.bx_find.specs.declared.letters.Reading.{Reading}
 use Rattle.bx_find.specs.declared.letters.Reading.TheVariants.{Wide, Close}
 use Rattle.bx_find.specs.Letters.{letters}
@@ -16,11 +15,12 @@ use Rattle.bx_editor.specs.declared.search_state.SearchPurpose.{SearchPurpose}
 use Rattle.bx_editor.specs.declared.search_state.SearchPurpose.TheVariants as purposes
 use Rattle.bx_editor.specs.declared.matches.Landing.{Landing}
 use Rattle.bx_editor.specs.declared.message.Message.{Message}
-use Rattle.bx_editor.specs.declared.message.Message.TheVariants.{FromStart, FromEnd, NoLetter, NotFound, NothingToPut}
+use Rattle.bx_editor.specs.declared.message.Message.TheVariants.{FromStart, FromEnd, NoLetter, NotFound}
 use Rattle.bx_editor.specs.declared.search_state.SearchState.{SearchState}
 use Rattle.bx_editor.specs.declared.search_state.SearchState.TheVariants.{Off, Begun, Typed, WithBegun, WithTyped}
+use Rattle.bx_editor.specs.LineState.{LineState}
 use Rattle.bx_editor.specs.Editor.{Editor, rows, with_place}
-use Rattle.bx_editor.specs.InputLines.{InputLine, erases_nothing, held_letters, is_at_end, is_no_letter, line_lengthened, line_moved, line_shortened, line_with}
+use Rattle.bx_editor.specs.InputLines.{erases_nothing, is_at_end, is_no_letter, line_lengthened, line_moved, line_shortened, line_with}
 
 -- ---- the query
 
@@ -34,7 +34,7 @@ abbrev pub sought : Data → Editor → List ℕ
 sought d e = letters d (reading e.purpose) (chars e.query)
 
 -- the query, or the replacement, into which a character goes: empty if it was just asked for, so that typing replaces the latest one
-abbrev pub kept : SearchState → InputLine → InputLine
+abbrev pub kept : SearchState → LineState → LineState
 kept Begun l = line_with [] 0
 kept WithBegun l = line_with [] 0
 kept _ l = l
@@ -46,7 +46,7 @@ as_typed WithBegun = WithTyped
 as_typed search_state = search_state
 
 -- the query with the cursor in it
-abbrev pub query_line : Editor → InputLine
+abbrev pub query_line : Editor → LineState
 query_line e = line_with e.query e.input_cursor
 
 -- the most characters that a query has: a choice, which docs/bidi_edit.1 tells and for which `bx_find/src/query.rt` has room
@@ -112,7 +112,7 @@ abbrev pub after_giving_up : Editor → Editor
 after_giving_up e = record e { search_state = Off; place = e.origin }
 
 -- the query was typed
-abbrev pub with_query : Editor → InputLine → Editor
+abbrev pub with_query : Editor → LineState → Editor
 with_query e l = record e { query = l.text; input_cursor = l.cursor; search_state = Typed }
 
 -- the query is sought from the place on; if it did not grow at its end, from where the search began
@@ -133,15 +133,6 @@ after_erasing_query d e how =
 -- the cursor moves in the query, or in the replacement
 abbrev pub after_moving_in : Data → Editor → List ℕ → Move → Editor
 after_moving_in d e text m = record e { input_cursor = line_moved d m (line_with text e.input_cursor); search_state = as_typed e.search_state }
-
--- characters go into an input line one after the other, each with this effect; if there are none, that is told
-abbrev pub after_letters : (Editor → ℕ → Editor) → Editor → List ℕ → Editor
-after_letters effect e [] = record e { message = Some NothingToPut }
-after_letters effect e (c ∷ cs) = fold effect (effect e c) cs
-
--- the held text goes into the query, up to its first line end or tab
-abbrev pub after_putting_in_query : Data → Editor → Editor
-after_putting_in_query d e = after_letters (after_letter d) e (held_letters d e.held)
 
 -- the next place, or the text's start where there is none
 abbrev pub next_or_start : Data → Editor → ℕ

@@ -1,35 +1,42 @@
-//! The keys that ask, and what answers a question: a line, and a character by name or by code.
-ghost use Rattle.std.specs.Prelude.{◌≡◌, IfOk, OnErr, OnOk};
+//! The keys that ask, and what answers a question: a line, a character by name or by code, a name to save under, and whether to overwrite.
+ghost use Rattle.std.specs.Prelude.{◌≡◌, ◌≤◌, if◌then◌else◌, IfOk, IfSome, IsOk, OnErr, OnOk, chars, length};
 ghost use Rattle.bx_view.specs.Places.{IsTextPlace};
-ghost use Rattle.bx_editor.specs.questions.Answers.{lengthened};
 ghost use Rattle.bx_editor.specs.questions.Names.{closing, coded, named};
-ghost use Rattle.bx_document.specs.Narrow.{IsNarrow};
 ghost use Rattle.bx_editor.specs.Answers.{limit_of};
-ghost use Rattle.bx_editor.specs.Asking.{after_answer_letter, after_code, after_code_letter, after_going, after_line_letter, after_name_letter};
-ghost use Rattle.bx_editor.specs.Asking.{after_named, after_shorter_answer, asking, target_place, with_answer, with_character, without_prompt};
+ghost use Rattle.bx_editor.specs.Asking.{after_answer_letter, after_code, after_code_letter, after_erasing_answer, after_file_letter, after_going, after_line_letter};
+ghost use Rattle.bx_editor.specs.Asking.{after_name_key, after_name_letter, after_named, answer_lengthened, asking, target_place, with_answer, with_character, without_prompt};
 ghost use Rattle.bx_editor.specs.Editor.{cleared, with_typing};
-ghost use Rattle.bx_editor.specs.Putting.{only_paste};
+ghost use Rattle.bx_editor.specs.InputLines.{after_taking, prompt_line};
+ghost use Rattle.bx_editor.specs.Putting.{is_paste};
+ghost use Rattle.bx_editor.specs.Saving.{after_deciding};
+ghost use Rattle.bx_editor.specs.Search.{after_moving_in};
 
 use crate::editor::Editor;
+use crate::input_line::{Erasure, InputLine};
 use crate::message::Message;
-use crate::putting::{is_paste, only_paste};
+use crate::putting::is_paste;
+use crate::query::as_typed;
 use crate::questions::{
-    Prompt, Target, asked, asks_code, closing, coded, is_code_letter, is_line_letter, lengthened,
-    named, shortened,
+    Prompt, Target, asked, asks_code, closing, code_letter, coded, is_code_letter, is_line_letter,
+    name_letter, named,
 };
+use crate::saving::confirms;
 use crate::undo_groups::Kind;
 use bx_common::{OutOfMemory, Range};
+use bx_store::StoreFault;
 use bx_ucd::BidiData;
+use bx_view::Move;
 
-/// The most characters of the answer to a question: `longest_line` and `longest_code` of specs/Asking.antt, where their reasons
-/// are. A name has none, since its one letter answers; without a question the answer is the latest one.
+/// The most characters of the answer to a question: `longest_line`, `longest_code` and `longest_name` of the specs, where their reasons
+/// are. A name of a character has none, since its one letter answers; without a question the answer is the latest one.
 fn limit_of(prompt: Prompt) -> usize
     ensures { result ≡ limit_of prompt }
 {
     match prompt {
+        Prompt::Line => 16,
         Prompt::Name => 0,
         Prompt::Code => 6,
-        _ => 16,
+        Prompt::Off | Prompt::File | Prompt::Overwrite => 255,
     }
 }
 
@@ -40,6 +47,7 @@ impl<D: BidiData + Drop> Editor<D> {
     {
         self.prompt = prompt;
         self.answer = String::new(*self.answer.allocator());
+        self.input_cursor = 0;
         self.reset_after_key();
     }
 
@@ -50,19 +58,34 @@ impl<D: BidiData + Drop> Editor<D> {
         self.prompt = Prompt::Off;
     }
 
-    /// Appends a character to the answer, unless it has as many as it may.
+    /// Puts a character into the answer, unless it has as many as it may.
     fn lengthen(&mut self, c: char) -> Result<(), OutOfMemory>
-        requires narrow { IsNarrow c }
+        requires line { IfSome (prompt_line self.old.editor self.old.editor.prompt) (λ line. line ≡ self.old.editor.answer) }
         ensures ok { OnOk result (self.new ≡ record self.old {
-          editor = with_answer (cleared self.old.editor) (lengthened (limit_of self.old.editor.prompt) self.old.editor.answer c);
+          editor = answer_lengthened (D.data self.old.tables) (limit_of self.old.editor.prompt) (cleared self.old.editor) c;
         }) }
         ensures err { OnErr result (self.new ≡ self.old) }
     {
         let limit = limit_of(self.prompt);
-        let answer = lengthened(*self.answer.allocator(), self.answer.as_str(), c, limit)?;
-        self.answer = answer;
-        self.reset_after_key();
+        let mut line = InputLine::of(
+            *self.answer.allocator(),
+            self.answer.as_str(),
+            self.input_cursor,
+        )?;
+        line.insert(&self.document, c, limit)?;
+        self.take_answer(line);
         Ok(())
+    }
+
+    /// Makes a line the answer, and clears the message.
+    fn take_answer(&mut self, line: InputLine)
+        requires few { length (chars line.text) ≤ limit_of self.old.editor.prompt }
+        requires place { IsTextPlace (D.data self.old.tables) line.text line.cursor }
+        ensures { self.new ≡ record self.old { editor = with_answer (cleared self.old.editor) line } }
+    {
+        self.answer = line.text;
+        self.input_cursor = line.cursor;
+        self.reset_after_key();
     }
 
     /// The place of a paragraph and a unit in it; without a paragraph, of that unit of the paragraph where the cursor is.
@@ -92,24 +115,21 @@ impl<D: BidiData + Drop> Editor<D> {
         Ok(())
     }
 
-    /// Takes a character of the answer to the question for a line; a paste's line end answers nothing.
+    /// Takes a character of the answer to the question for a line; LF goes there.
     fn answer_line(&mut self, c: char) -> Result<(), OutOfMemory>
         requires prompt { self.old.editor.prompt ≡ Prompt.Line }
         ensures ok { OnOk result (self.new ≡ record self.old {
-          editor = with_typing (after_line_letter (D.data self.old.tables) self.old.editor.typing (cleared self.old.editor) c)
-              (only_paste self.old.editor.typing);
+          editor = after_line_letter (D.data self.old.tables) (cleared self.old.editor) c;
         }) }
         ensures err { OnErr result (self.new ≡ self.old) }
     {
-        let typing = self.typing;
-        if c == '\n' && !is_paste(typing) {
-            self.go()?;
-        } else if is_line_letter(c) {
-            self.lengthen(c)?;
-        } else {
-            self.reset_after_key();
+        if c == '\n' {
+            return self.go();
         }
-        self.typing = only_paste(typing);
+        if is_line_letter(c) {
+            return self.lengthen(c);
+        }
+        self.reset_after_key();
         Ok(())
     }
 
@@ -161,13 +181,32 @@ impl<D: BidiData + Drop> Editor<D> {
             self.leave_question();
             return Ok(());
         }
-        self.reset_after_key();
         if asks_code(letter) {
-            self.prompt = Prompt::Code;
-        } else if letter == '\n' {
+            self.begin_question(Prompt::Code);
+            return Ok(());
+        }
+        self.reset_after_key();
+        if letter == '\n' {
             self.leave_question();
         }
         Ok(())
+    }
+
+    /// Takes a character that is typed or pasted while a name of a character is asked for. What is pasted names nothing.
+    pub(crate) fn answer_name_key(&mut self, c: char) -> Result<(), OutOfMemory>
+        requires prompt { self.old.editor.prompt ≡ Prompt.Name }
+        ensures ok { OnOk result (self.new ≡ record self.old {
+          editor = if is_paste self.old.editor.typing
+              then with_typing (cleared self.old.editor) self.old.editor.typing
+              else after_name_key (D.data self.old.tables) (cleared self.old.editor) c;
+        }) }
+        ensures err { OnErr result (self.new ≡ self.old) }
+    {
+        if is_paste(self.typing) {
+            self.clear_message();
+            return Ok(());
+        }
+        self.answer_name(name_letter(c))
     }
 
     /// Puts in the character whose code the answer writes; if there is none, sets a message.
@@ -206,44 +245,130 @@ impl<D: BidiData + Drop> Editor<D> {
         Ok(())
     }
 
-    /// Takes a typed character as part of the answer. What is pasted answers no question for a character.
-    pub(crate) fn answer_question(&mut self, c: char) -> Result<(), OutOfMemory>
+    /// Takes a character of the name to save under; LF saves, with the fault of the store, if there was one. It takes no memory then.
+    fn answer_file(&mut self, c: char, fault: Option<StoreFault>) -> Result<(), OutOfMemory>
+        requires prompt { self.old.editor.prompt ≡ Prompt.File }
         ensures ok { OnOk result (self.new ≡ record self.old {
-          editor = after_answer_letter (D.data self.old.tables) self.old.editor.typing self.old.editor.prompt (cleared self.old.editor) c;
+          editor = after_file_letter (D.data self.old.tables) fault (cleared self.old.editor) c;
         }) }
         ensures err { OnErr result (self.new ≡ self.old) }
+        ensures saved { c ≡ 0xA → IsOk result }
+    {
+        if c == '\n' {
+            self.leave_question();
+            self.name_answered(fault);
+            return Ok(());
+        }
+        if c == '\t' || self.document.separates(c) {
+            self.reset_after_key();
+            return Ok(());
+        }
+        self.lengthen(c)
+    }
+
+    /// Takes a character that is typed as part of the answer to a question with an input line.
+    pub(crate) fn type_answer(&mut self, c: char, fault: Option<StoreFault>) -> Result<(), OutOfMemory>
+        ensures ok { OnOk result (self.new ≡ record self.old {
+          editor = after_answer_letter (D.data self.old.tables) fault self.old.editor.prompt (cleared self.old.editor) c;
+        }) }
+        ensures err { OnErr result (self.new ≡ self.old) }
+        ensures saved { self.old.editor.prompt ≡ Prompt.File → c ≡ 0xA → IsOk result }
     {
         match self.prompt {
-            Prompt::Off => {
+            Prompt::Line => self.answer_line(c),
+            Prompt::Code => self.answer_code(code_letter(c)),
+            Prompt::File => self.answer_file(c, fault),
+            Prompt::Off | Prompt::Name | Prompt::Overwrite => {
                 self.reset_after_key();
                 Ok(())
             }
-            Prompt::Line => self.answer_line(c),
-            Prompt::Name | Prompt::Code if is_paste(self.typing) => {
-                self.clear_message();
-                Ok(())
-            }
-            Prompt::Name => self.answer_name(c),
-            Prompt::Code => self.answer_code(c),
         }
     }
 
-    /// Removes the answer's last character; an empty code becomes the question for a name again.
-    pub(crate) fn shorten_answer(&mut self) -> Result<(), OutOfMemory>
+    /// Takes a character that is typed or pasted as part of the answer to a question with an input line.
+    pub(crate) fn answer_question(&mut self, c: char, fault: Option<StoreFault>) -> Result<(), OutOfMemory>
         ensures ok { OnOk result (self.new ≡ record self.old {
-          editor = after_shorter_answer self.old.editor.prompt (cleared self.old.editor);
+          editor = after_taking (D.data self.old.tables) self.old.editor.typing c (cleared self.old.editor)
+              (after_answer_letter (D.data self.old.tables) fault self.old.editor.prompt (cleared self.old.editor) c);
+        }) }
+        ensures err { OnErr result (self.new ≡ self.old) }
+        ensures saved { self.old.editor.prompt ≡ Prompt.File → c ≡ 0xA → IsOk result }
+    {
+        let behind = self.behind_letter(c);
+        if self.is_taken(c) {
+            self.type_answer(c, fault)?;
+        } else {
+            self.reset_after_key();
+        }
+        self.typing = behind;
+        Ok(())
+    }
+
+    /// Removes what an erasure removes from the answer. At an empty code the question is that for a name again, if the last character was
+    /// to be removed.
+    pub(crate) fn erase_in_answer(&mut self, how: Erasure) -> Result<(), OutOfMemory>
+        requires line { IfSome (prompt_line self.old.editor self.old.editor.prompt) (λ line. line ≡ self.old.editor.answer) }
+        ensures ok { OnOk result (self.new ≡ record self.old {
+          editor = after_erasing_answer (D.data self.old.tables) self.old.editor.prompt (cleared self.old.editor) how;
         }) }
         ensures err { OnErr result (self.new ≡ self.old) }
     {
-        match self.prompt {
-            Prompt::Off | Prompt::Name => {}
-            Prompt::Code if self.answer.is_empty() => self.prompt = Prompt::Name,
-            Prompt::Line | Prompt::Code => {
-                let answer = shortened(*self.answer.allocator(), self.answer.as_str())?;
-                self.answer = answer;
-            }
+        if let (Prompt::Code, Erasure::LastCharacter, true) = (self.prompt, how, self.answer.is_empty()) {
+            self.prompt = Prompt::Name;
+            self.reset_after_key();
+            return Ok(());
         }
+        let mut line = InputLine::of(
+            *self.answer.allocator(),
+            self.answer.as_str(),
+            self.input_cursor,
+        )?;
+        if line.erase(&self.document, how)? {
+            self.take_answer(line);
+        } else {
+            self.reset_after_key();
+        }
+        Ok(())
+    }
+
+    /// Moves the cursor in the answer.
+    pub(crate) fn move_in_answer(&mut self, m: Move) -> Result<(), OutOfMemory>
+        requires line { IfSome (prompt_line self.old.editor self.old.editor.prompt) (λ line. line ≡ self.old.editor.answer) }
+        ensures ok { OnOk result (self.new ≡ record self.old {
+          editor = after_moving_in (D.data self.old.tables) (cleared self.old.editor) self.old.editor.answer m;
+        }) }
+        ensures err { OnErr result (self.new ≡ self.old) }
+    {
+        let cursor = self
+            .document
+            .moved_in_line(self.answer.as_str(), m, self.input_cursor)?;
+        self.input_cursor = cursor;
+        self.cursor.search_state = as_typed(self.cursor.search_state);
         self.reset_after_key();
         Ok(())
+    }
+
+    /// Takes a letter that is typed or pasted in the question whether to overwrite: one confirms, any other declines. What is pasted does
+    /// neither. Allocates nothing.
+    pub(crate) fn answer_overwrite(&mut self, c: char, fault: Option<StoreFault>)
+        requires prompt { self.old.editor.prompt ≡ Prompt.Overwrite }
+        ensures { self.new ≡ record self.old {
+          editor = if is_paste self.old.editor.typing
+              then with_typing (cleared self.old.editor) self.old.editor.typing
+              else after_deciding fault (without_prompt (cleared self.old.editor)) c;
+        } }
+    {
+        if is_paste(self.typing) {
+            self.clear_message();
+            return;
+        }
+        self.leave_question();
+        if !confirms(c) {
+            self.reset_after_key();
+        } else if self.read_only {
+            self.tell(Message::ViewOnly);
+        } else {
+            self.note_save(fault);
+        }
     }
 }

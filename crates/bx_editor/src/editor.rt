@@ -14,7 +14,7 @@ use crate::past::Past;
 use crate::questions::Prompt;
 use crate::search_state::{SearchPurpose, SearchState};
 use crate::undo_groups::Typing;
-use bx_document::Document;
+use bx_document::{Document, DrawnName};
 use bx_text::Slices;
 use bx_ucd::BidiData;
 use bx_view::Goal;
@@ -54,6 +54,8 @@ pub struct Editor<D: BidiData + Drop> {
     pub(crate) tab_width: u8,
     pub(crate) name: Option<String>,
     pub(crate) home: bool,
+    /// The name's glyphs, once they were drawn.
+    pub(crate) drawn_name: Option<DrawnName>,
 }
 
 impl<D: BidiData + Drop> Model for Editor<D> {

@@ -1,12 +1,16 @@
 //! The effect of each key.
-ghost use Rattle.std.specs.Prelude.{◌≡◌, Some, true, OnErr, OnOk};
+ghost use Rattle.std.specs.Prelude.{◌≡◌, None, Some, true, IfSome, IsOk, OnErr, OnOk, is_some};
 ghost use Rattle.bx_editor.specs.Asking.{without_prompt};
-ghost use Rattle.bx_editor.specs.Editor.{after_help, after_quit, after_save, cleared, next_base, with_base, with_typing};
+ghost use Rattle.bx_editor.specs.Editor.{after_help, after_quit, cleared, next_base, with_base, with_typing};
 ghost use Rattle.bx_editor.specs.Before.{before};
-ghost use Rattle.bx_editor.specs.Keys.{after_any, after_asking, after_key, after_pressing, after_user, changes_text, is_edit_or_move, may_refuse, refuses_replacing};
+ghost use Rattle.bx_editor.specs.Answering.{answer_of, without_line};
+ghost use Rattle.bx_editor.specs.InputLines.{prompt_line};
+ghost use Rattle.bx_editor.specs.Keys.{after_any, after_key, after_pressing, after_user, answered_name, answered_overwrite, answered_question};
+ghost use Rattle.bx_editor.specs.Keys.{changes_text, is_edit_or_move, may_refuse, refuses_replacing, saving_of};
 ghost use Rattle.bx_editor.specs.Functions.{has_size, move_of};
 
 use crate::clicks::{clicks_behind, pressed_behind};
+use crate::answer::{Answer, answer_of};
 use crate::editor::Editor;
 use crate::message::Message;
 use crate::moving::goal_behind;
@@ -126,22 +130,8 @@ impl<D: BidiData + Drop> Editor<D> {
         self.tell(Message::Direction(base));
     }
 
-    /// Notes the end of a Save: what is saved, or why it failed.
-    fn note_save(&mut self, fault: Option<StoreFault>)
-        ensures { self.new ≡ record self.old { editor = after_save (cleared self.old.editor) fault } }
-    {
-        match fault {
-            None => {
-                self.past.stored = Some(self.document.past_len());
-                self.past.changed = false;
-                self.tell(Message::Saved);
-            }
-            Some(fault) => self.tell(Message::SaveFailed(fault.cause)),
-        }
-    }
-
-    /// Applies a key. At a Save, `fault` says why the text could not be stored; None if it was stored. The caller stores it first, and
-    /// before that ends a paste ([`Editor::end_paste`]). At any other key `fault` has no meaning. While a paste is under way, a character
+    /// Applies a key. At a key that stores the text ([`Editor::saving_of`]), `fault` says why it could not be stored; None if it was
+    /// stored. The caller stores it first, and before that ends a paste ([`Editor::end_paste`]). At any other key `fault` has no meaning. While a paste is under way, a character
     /// goes into it, Repaint leaves it, and any other key that the user presses first ends it.
     ///
     /// Errors: `OutOfMemory`, only for a key that edits, undoes, redoes, moves, copies or finds, or ends a paste, and nothing has
@@ -152,6 +142,7 @@ impl<D: BidiData + Drop> Editor<D> {
         ensures tables { self.new.tables ≡ self.old.tables }
         ensures err { OnErr result (self.new ≡ self.old) }
         ensures edits { OnErr result (may_refuse self.old.editor key ≡ true) }
+        ensures stores { is_some (saving_of self.old.editor key) ≡ true → IsOk result }
     {
         match key {
             Key::Size(height, width) => self.resize(height, width),
@@ -210,8 +201,12 @@ impl<D: BidiData + Drop> Editor<D> {
         ensures edits { OnErr result (is_edit_or_move key ≡ true) }
     {
         match (self.prompt, self.cursor.search_state) {
-            (Prompt::Line | Prompt::Name | Prompt::Code, _) => self.press_in_question(key, fault),
-            (Prompt::File | Prompt::Overwrite, _) => self.press_in_question(key, fault),
+            (Prompt::Line | Prompt::Code | Prompt::File, _) => self.press_in_question(key, fault),
+            (Prompt::Name, _) => self.press_for_name(key, fault),
+            (Prompt::Overwrite, _) => {
+                self.press_for_overwriting(key, fault);
+                Ok(())
+            }
             (_, SearchState::Off) => self.press(key, fault),
             (_, SearchState::Begun | SearchState::Typed) => self.press_in_search(key, fault),
             (_, SearchState::WithBegun | SearchState::WithTyped) => {
@@ -255,6 +250,7 @@ impl<D: BidiData + Drop> Editor<D> {
             Key::ScrollBack => self.wheel(Vertical::Up)?,
             Key::ScrollOn => self.wheel(Vertical::Down)?,
             Key::FindNext => self.go_to_next()?,
+            Key::FindPrevious => self.go_to_previous()?,
             Key::Undo => self.step(HistoryStep::Undo)?,
             Key::Redo => self.step(HistoryStep::Redo)?,
             Key::UndoRun => self.step_group(HistoryStep::Undo)?,
@@ -273,6 +269,8 @@ impl<D: BidiData + Drop> Editor<D> {
                 self.begin_question(Prompt::Line);
             }
             Key::Name => self.begin_question(Prompt::Name),
+            Key::SaveAs => self.begin_question(Prompt::File),
+            Key::AskOverwrite => self.ask_overwrite(),
             Key::Tell => self.tell(Message::Told),
             Key::Help => self.help(),
             Key::Direction => self.turn_direction(),
@@ -283,28 +281,70 @@ impl<D: BidiData + Drop> Editor<D> {
         Ok(())
     }
 
-    /// Applies a key in a question.
+    /// Applies a key in a question with an input line.
     fn press_in_question(&mut self, key: Key, fault: Option<StoreFault>) -> Result<(), OutOfMemory>
+        requires line { IfSome (prompt_line self.old.editor self.old.editor.prompt) (λ line. line ≡ self.old.editor.answer) }
         ensures ok { OnOk result (self.new.editor
-            ≡ after_asking (D.data self.old.tables) fault (before self.old.editor) (cleared self.old.editor) key) }
+            ≡ answered_question (D.data self.old.tables) fault (before self.old.editor) (cleared self.old.editor) key (answer_of key)) }
         ensures tables { self.new.tables ≡ self.old.tables }
         ensures err { OnErr result (self.new ≡ self.old) }
         ensures edits { OnErr result (is_edit_or_move key ≡ true) }
     {
-        match key {
-            Key::Insert(c) => self.answer_question(c)?,
-            Key::NewLine => self.answer_question('\n')?,
-            Key::Erase | Key::Delete | Key::ErasePoint => self.shorten_answer()?,
-            Key::Quit | Key::Copy | Key::Cancel => {
+        match answer_of(key) {
+            Answer::Letter(c) => self.answer_question(c, fault)?,
+            Answer::Erases(how) => self.erase_in_answer(how)?,
+            Answer::Moves(m) => self.move_in_answer(m)?,
+            Answer::PutsIn => self.put_in_line()?,
+            Answer::Passes => self.reset_after_key(),
+            Answer::GoesBack => {
                 self.leave_question();
                 self.reset_after_key();
             }
-            Key::Repaint => self.clear_message(),
-            Key::ScrollBack => self.wheel(Vertical::Up)?,
-            Key::ScrollOn => self.wheel(Vertical::Down)?,
+            Answer::Scrolls(way) => self.wheel(way)?,
+            Answer::Stays => self.clear_message(),
             _ => self.press_without_question(key, fault)?,
         }
         Ok(())
+    }
+
+    /// Applies a key in the question for a character's name.
+    fn press_for_name(&mut self, key: Key, fault: Option<StoreFault>) -> Result<(), OutOfMemory>
+        requires prompt { self.old.editor.prompt ≡ Prompt.Name }
+        ensures ok { OnOk result (self.new.editor
+            ≡ answered_name (D.data self.old.tables) fault (before self.old.editor) (cleared self.old.editor) key (without_line (answer_of key))) }
+        ensures tables { self.new.tables ≡ self.old.tables }
+        ensures err { OnErr result (self.new ≡ self.old) }
+        ensures edits { OnErr result (is_edit_or_move key ≡ true) }
+    {
+        match answer_of(key).without_line() {
+            Answer::Letter(c) => self.answer_name_key(c)?,
+            Answer::Erases(_) => self.reset_after_key(),
+            Answer::GoesBack => {
+                self.leave_question();
+                self.reset_after_key();
+            }
+            Answer::Scrolls(way) => self.wheel(way)?,
+            Answer::Stays => self.clear_message(),
+            _ => self.press_without_question(key, fault)?,
+        }
+        Ok(())
+    }
+
+    /// Applies a key in the question whether to overwrite: a letter confirms it, and any other key only declines. Allocates nothing.
+    fn press_for_overwriting(&mut self, key: Key, fault: Option<StoreFault>)
+        requires prompt { self.old.editor.prompt ≡ Prompt.Overwrite }
+        ensures { self.new ≡ record self.old {
+          editor = answered_overwrite fault (before self.old.editor) (cleared self.old.editor) (answer_of key);
+        } }
+    {
+        match answer_of(key) {
+            Answer::Letter(c) => self.answer_overwrite(c, fault),
+            Answer::Stays => self.clear_message(),
+            _ => {
+                self.leave_question();
+                self.reset_after_key();
+            }
+        }
     }
 
     /// Ends the question, and applies a key with its usual effect. A refused key leaves the question.

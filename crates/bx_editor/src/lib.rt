@@ -1,14 +1,17 @@
 //! The editor: a text, the cursor's place, the effect of keys on them, and the picture of the window.
 #![tactic(auto)]
 
+mod answer;
 mod asking;
 mod clicks;
 mod clipboard;
 mod cursor;
 mod editor;
 mod erasing;
+mod input_line;
 mod keys;
 mod laws;
+mod line_puts;
 mod matches;
 pub mod message;
 mod moving;
@@ -24,6 +27,7 @@ mod region;
 mod replacement;
 mod replacing;
 mod replay;
+mod saving;
 mod scrolling;
 mod search_keys;
 pub mod search_state;
@@ -42,10 +46,13 @@ pub use editor::Editor;
 pub use laws::{copies_go_out, paste_is_one_edit, paste_is_unseen};
 pub use message::Message;
 pub use opening::OpenError;
+pub use answer::{Answer, answer_of};
+pub use input_line::{Erasure, InputLine};
 pub use questions::{
-    Prompt, Target, asked, asks_code, closing, coded, is_code_letter, is_line_letter, lengthened,
-    named, shortened, told_is_printable, write_told,
+    Prompt, Target, asked, asks_code, closing, code_letter, coded, is_code_letter, is_line_letter,
+    name_letter, named, told_is_printable, write_told,
 };
+pub use saving::Saving;
 pub use scrolling::Scroll;
 pub use search_state::{SearchPurpose, SearchState};
 pub use settings::Settings;

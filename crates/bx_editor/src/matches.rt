@@ -4,7 +4,7 @@ ghost use Rattle.bx_find.specs.Letters.{letters};
 ghost use Rattle.bx_find.specs.Matches.{first_from, last_before};
 ghost use Rattle.bx_view.specs.Places.{IsTextPlace};
 ghost use Rattle.bx_document.specs.Document.{rows};
-ghost use Rattle.bx_editor.specs.Search.{backward, forward, match_or, not_found};
+ghost use Rattle.bx_editor.specs.Search.{backward, forward, match_or, not_found, nothing_sought};
 
 use crate::message::Message;
 use bx_common::OutOfMemory;
@@ -20,11 +20,19 @@ pub struct Landing {
     pub message: Option<Message>,
 }
 
-/// The query has no letters.
-const NOTHING_SOUGHT: Landing = Landing {
-    place: None,
-    message: None,
-};
+/// Where a query without letters leads: nowhere. That it has none is told, unless it is empty.
+pub(crate) fn nothing_sought(query: &str) -> Landing
+    ensures { result ≡ nothing_sought query.now }
+{
+    Landing {
+        place: None,
+        message: if query.is_empty() {
+            None
+        } else {
+            Some(Message::NoLetter)
+        },
+    }
+}
 
 /// The query is nowhere in the text.
 const NOT_FOUND: Landing = Landing {
@@ -113,11 +121,11 @@ pub(crate) fn forward<D: BidiData + Drop>(
     requires text_place { IsTextPlace (D.data document.old.tables) document.old.document.content.text place }
     ensures same { document.new ≡ document.old }
     ensures landing { IfOk result (λ l. l ≡ forward (D.data document.old.tables) reading (rows (D.data document.old.tables) document.old.document)
-        document.old.document.content.text place (letters (D.data document.old.tables) reading (chars query.now))) }
+        document.old.document.content.text place query.now (letters (D.data document.old.tables) reading (chars query.now))) }
     ensures text_place { IfOk result (λ l. IfSome l.place (IsTextPlace (D.data document.old.tables) document.old.document.content.text)) }
 {
     let Some(sought) = document.query(reading, query) else {
-        return Ok(NOTHING_SOUGHT);
+        return Ok(nothing_sought(query));
     };
     match document.first_from(reading, &sought, place) {
         Some(offset) => at_match(document, offset, None),
@@ -137,11 +145,11 @@ pub(crate) fn backward<D: BidiData + Drop>(
     requires text_place { IsTextPlace (D.data document.old.tables) document.old.document.content.text place }
     ensures same { document.new ≡ document.old }
     ensures landing { IfOk result (λ l. l ≡ backward (D.data document.old.tables) reading (rows (D.data document.old.tables) document.old.document)
-        document.old.document.content.text place (letters (D.data document.old.tables) reading (chars query.now))) }
+        document.old.document.content.text place query.now (letters (D.data document.old.tables) reading (chars query.now))) }
     ensures text_place { IfOk result (λ l. IfSome l.place (IsTextPlace (D.data document.old.tables) document.old.document.content.text)) }
 {
     let Some(sought) = document.query(reading, query) else {
-        return Ok(NOTHING_SOUGHT);
+        return Ok(nothing_sought(query));
     };
     match document.last_before(reading, &sought, place) {
         Some(offset) => at_match(document, offset, None),

@@ -36,6 +36,8 @@ pub enum Message {
     /// The match was found from the text's end: there is none before the place.
     FromEnd,
     NotFound,
+    /// The query has no letters, and is not empty.
+    NoLetter,
     /// The first list of keys.
     Help,
     /// The second list of keys.
@@ -68,7 +70,7 @@ fn failed_text(cause: Option<SaveCause>) -> &'static str
         Some(SaveCause::ReadOnly) => "save failed: read-only disk",
         Some(SaveCause::TooLarge) => "save failed: file too large",
         Some(SaveCause::OutOfMemory) => "save failed: out of memory",
-        Some(SaveCause::Changed) => "save failed: file changed on disk, ^S overwrites it",
+        Some(SaveCause::Changed) => "file changed on disk",
         Some(SaveCause::NotPlain) => "save failed: not a plain file",
         Some(SaveCause::CutOff) => {
             "save failed: file cut off, its whole text is in a .bx file beside it"
@@ -110,19 +112,22 @@ impl Message {
             Message::Direction(Base::Ltr) => "direction ltr",
             Message::Direction(Base::Rtl) => "direction rtl",
             Message::MarkSet => "mark set",
-            Message::MarkOff => "mark off",
+            Message::MarkOff => "mark cleared",
             Message::Copied => "copied",
             Message::LineCopied => "line copied",
             Message::NothingToCopy => "nothing to copy",
-            Message::NothingToPut => "nothing to put",
+            Message::NothingToPut => "nothing to paste",
             Message::ViewOnly => "view only",
             Message::FromStart => "from the start",
             Message::FromEnd => "from the end",
             Message::NotFound => "not found",
+            Message::NoLetter => "no letter to find",
             Message::Help => {
-                "^S save ^Q quit ^Z undo ^W find ^@ mark ^X cut ^C copy ^V put F2 turn"
+                "^S save ^Q quit ^Z undo ^F find ^X cut ^C copy ^V paste F2 ltr/rtl"
             }
-            Message::MoreHelp => "F4 replace ^G line ^K insert ^T tell ^Y redo ^R back ^L paint",
+            Message::MoreHelp => {
+                "F4 replace ^G line ^K insert ^T info ^Y redo ^B back ^A all ^O save as"
+            }
             Message::MoreThanOneLine => "more than one line",
             Message::NoSuchCharacter => "no such character",
             Message::Pasting => "pasting",

@@ -117,6 +117,7 @@ impl<D: BidiData + Drop> Editor<D> {
                 tab_width: 0,
                 name: None,
                 home: true,
+                drawn_name: None,
             }),
             Err(_) => Err(OpenError::OutOfMemory),
         }

@@ -1,15 +1,16 @@
 //! The picture of an editor.
-ghost use Rattle.std.specs.Prelude.{◌≡◌, ◌*◌, ◌≤◌, ◌++◌, false, true, IfOk, OnOk, length, take};
+ghost use Rattle.std.specs.Prelude.{◌≡◌, ◌*◌, ◌≤◌, ◌++◌, false, true, None, IfOk, IfSome, OnOk, length, take};
 ghost use Rattle.bx_common.specs.Characters.{is_side};
 ghost use Rattle.bx_view.specs.Position.{IsPosition};
 ghost use Rattle.bx_editor.specs.Editor.{rows, text_height};
 ghost use Rattle.bx_editor.specs.Picture.{StandsOnItsCell, picture, top_behind};
-ghost use Rattle.bx_editor.specs.Status.{status_columns};
+ghost use Rattle.bx_editor.specs.Status.{input_column, is_rtl, status_columns};
 
 use crate::editor::Editor;
 use crate::scrolling::Scroll;
 use crate::status::status_line;
 use bx_common::OutOfMemory;
+use bx_document::{Shown, StatusRow};
 use bx_grid::{Cell, Grid, Picture};
 use bx_ucd::BidiData;
 use bx_view::Position;
@@ -26,39 +27,42 @@ pub(crate) fn text_height(height: u16) -> u16
 }
 
 impl<D: BidiData + Drop> Editor<D> {
-    /// Draws the status row below the text rows, with the prompt of a question or of a search. A window of a single row has
-    /// none.
+    /// Draws the status row below the text rows, with the prompt of a question or of a search. A window of a single row has none.
+    /// Returns the column of the cursor in it, if it is in an input line and has room.
     fn put_status(
         &mut self,
         alloc: Global,
         page: &mut Grid,
-        position: Position,
-    ) -> Result<(), OutOfMemory>
+        shown: Shown,
+    ) -> Result<Option<u16>, OutOfMemory>
         requires height { page.old.height ≡ self.old.editor.height }
         requires width { page.old.width ≡ self.old.editor.width }
         requires position { IsPosition (D.data self.old.tables) self.old.editor.width self.old.editor.content.text
-            (rows (D.data self.old.tables) self.old.editor) self.old.editor.place position }
+            (rows (D.data self.old.tables) self.old.editor) self.old.editor.place shown.position }
+        requires direction { shown.is_rtl ≡ is_rtl (D.data self.old.tables) self.old.editor }
         ensures same { self.new ≡ self.old }
         ensures status { OnOk result (page.new ≡ record page.old {
           columns = take (text_height self.old.editor.height * self.old.editor.width) page.old.columns
               ++ status_columns (D.data self.old.tables) self.old.editor;
         }) }
+        ensures column { IfOk result (λ column. column ≡ input_column (D.data self.old.tables) self.old.editor) }
+        ensures inside { IfOk result (λ column. IfSome column (λ c. (1 ≤ c) × (c ≤ self.old.editor.width))) }
         ensures sized { length page.old.columns ≡ page.old.height * page.old.width }
     {
         let height = page.height();
         if height < 2 {
-            return Ok(());
+            return Ok(None);
         }
         let Position {
             paragraph,
             unit,
             ..
-        } = position;
+        } = shown.position;
         let mut line = status_line(alloc, self.past.changed, paragraph, unit)?;
         self.write_message(&mut line)?;
-        let row = self.draw_status(line)?;
+        let StatusRow { row, column } = self.draw_status(line, shown.is_rtl)?;
         page.put_row(height - 1, &row)?;
-        Ok(())
+        Ok(column)
     }
 
     /// Scrolls from the offset `top` as a key asks for it, then to the cursor, and draws the window, with the region, or the match that
@@ -76,7 +80,7 @@ impl<D: BidiData + Drop> Editor<D> {
         ensures same { self.new ≡ self.old }
         ensures top { IfOk result (λ shown. shown.0 ≡ top_behind (D.data self.old.tables) self.old.editor top scroll) }
         ensures picture { IfOk result (λ shown. shown.1 ≡ picture (D.data self.old.tables) self.old.editor shown.0) }
-        ensures cursor { self.old.editor.ended ≡ false
+        ensures cursor { self.old.editor.ended ≡ false → input_column (D.data self.old.tables) self.old.editor ≡ None
             → IfOk result (λ shown. StandsOnItsCell (D.data self.old.tables) self.old.editor shown.0 shown.1) }
     {
         let mut page = page;
@@ -88,14 +92,19 @@ impl<D: BidiData + Drop> Editor<D> {
         }
         let count = text_height(self.height);
         let top = self.moved_top(top, scroll)?;
-        let region = self.seen();
+        let region = self.seen()?;
         let shown = self
             .document
             .show(&mut page, top, self.cursor.place, count, region)?;
-        self.put_status(alloc, &mut page, shown.position)?;
-        let cursor = Cell {
-            line: shown.row + 1,
-            column: shown.position.column,
+        let cursor = match self.put_status(alloc, &mut page, shown)? {
+            Some(column) => Cell {
+                line: height,
+                column,
+            },
+            None => Cell {
+                line: shown.row + 1,
+                column: shown.position.column,
+            },
         };
         Ok((shown.top, Picture::new(page, cursor)))
     }

@@ -1,6 +1,7 @@
 //! The texts of a search: the query and the replacement, each of at most 64 characters.
 ghost use Rattle.std.specs.Prelude.{◌≡◌, ◌≤◌, chars, length};
-ghost use Rattle.bx_editor.specs.Search.{kept, reading};
+ghost use Rattle.bx_editor.specs.InputLines.{line_with};
+ghost use Rattle.bx_editor.specs.Search.{as_typed, kept, reading};
 
 use crate::search_state::{SearchPurpose, SearchState};
 use bx_find::Reading;
@@ -19,15 +20,27 @@ pub(crate) fn reading_of(purpose: SearchPurpose) -> Reading
     }
 }
 
-/// The text that a key lengthens or shortens: empty if it was just asked for, so that typing replaces the latest one.
-pub(crate) fn kept(search_state: SearchState, text: &str) -> &str
-    requires few { length (chars text.now) ≤ 64 }
-    ensures kept { result.now ≡ kept search_state text.now }
-    ensures few { length (chars result.now) ≤ 64 }
+/// The line into which a character goes: empty if it was just asked for, so that typing replaces the latest one.
+pub(crate) fn kept(search_state: SearchState, line: &str, cursor: usize) -> (&str, usize)
+    requires few { length (chars line.now) ≤ 64 }
+    ensures kept { record { text = result.0.now; cursor = result.1 } ≡ kept search_state (line_with line.now cursor) }
+    ensures few { length (chars result.0.now) ≤ 64 }
 {
     match search_state {
-        SearchState::Begun | SearchState::WithBegun => "",
-        SearchState::Off | SearchState::Typed | SearchState::WithTyped | SearchState::Replacing =>
-            text,
+        SearchState::Begun | SearchState::WithBegun => ("", 0),
+        SearchState::Off | SearchState::Typed | SearchState::WithTyped | SearchState::Replacing => {
+            (line, cursor)
+        }
+    }
+}
+
+/// How far a search is once its input line was changed, or its cursor moved: what is typed next goes into the line.
+pub(crate) fn as_typed(search_state: SearchState) -> SearchState
+    ensures { result ≡ as_typed search_state }
+{
+    match search_state {
+        SearchState::Begun => SearchState::Typed,
+        SearchState::WithBegun => SearchState::WithTyped,
+        search_state => search_state,
     }
 }

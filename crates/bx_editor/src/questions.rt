@@ -4,13 +4,16 @@
 
 mod answers;
 mod codes;
+mod key_letters;
 mod laws;
 mod line;
 mod names;
 mod told;
 
-pub use answers::{Prompt, lengthened, shortened};
+pub(crate) use answers::{char_count, shortened};
+pub use answers::Prompt;
 pub use codes::{coded, is_code_letter};
+pub use key_letters::{code_letter, name_letter};
 pub use laws::told_is_printable;
 pub use line::{Target, asked, is_line_letter};
 pub use names::{asks_code, closing, named};

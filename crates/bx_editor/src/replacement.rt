@@ -1,19 +1,20 @@
 //! The question for the replacement, which replaces matches.
-ghost use Rattle.std.specs.Prelude.{◌≡◌, ◌↔◌, [], true, IfSome, IsNone, IsSome, IsUtf8, OnErr, OnOk};
+ghost use Rattle.std.specs.Prelude.{◌≡◌, ◌≤◌, ◌↔◌, [], true, chars, length, IfSome, IsNone, IsSome, IsUtf8, OnErr, OnOk};
 ghost use Rattle.bx_view.specs.Places.{IsTextPlace};
 ghost use Rattle.bx_editor.specs.Editor.{cleared};
 ghost use Rattle.bx_editor.specs.Origin.{asks_replacement, is_queried};
-ghost use Rattle.bx_editor.specs.Replacing.{after_asking_replacement, after_shorter_replacement, after_showing, replacement_typed};
-ghost use Rattle.bx_editor.specs.Search.{sought};
+ghost use Rattle.bx_editor.specs.Replacing.{after_asking_replacement, after_erasing_replacement, after_showing, replacement_typed, with_replacement};
+ghost use Rattle.bx_editor.specs.Search.{after_moving_in, sought};
 
 use crate::editor::Editor;
-use crate::matches::{forward, has_letters};
-use crate::query::{LONGEST_QUERY, kept, reading_of};
-use crate::questions::{lengthened, shortened};
+use crate::input_line::{Erasure, InputLine};
+use crate::matches::{forward, has_letters, nothing_sought};
+use crate::query::{LONGEST_QUERY, as_typed, kept, reading_of};
 use crate::search_state::{SearchPurpose, SearchState};
 use bx_common::OutOfMemory;
 use bx_find::{Query, Reading};
 use bx_ucd::BidiData;
+use bx_view::Move;
 
 impl<D: BidiData + Drop> Editor<D> {
     /// The query as the search reads it; none if it has no letters. Allocates nothing.
@@ -38,8 +39,9 @@ impl<D: BidiData + Drop> Editor<D> {
     {
         let query = self.query.as_str();
         if !has_letters(&self.document, Reading::Close, query) {
+            let landing = nothing_sought(query);
             self.purpose = SearchPurpose::Replace;
-            self.reset_after_key();
+            self.settle_at(landing);
             return Ok(());
         }
         let landing = forward(&mut self.document, Reading::Close, query, self.cursor.place)?;
@@ -49,14 +51,28 @@ impl<D: BidiData + Drop> Editor<D> {
             Some(_) => {
                 self.cursor.search_state = SearchState::WithBegun;
                 self.count = 0;
+                self.input_cursor = self.replacement.len();
             }
             None => self.cursor.search_state = SearchState::Typed,
         }
         Ok(())
     }
 
-    /// Appends a character other than a line feed to the replacement. A tab or another character that separates paragraphs only
-    /// clears the message.
+    /// Makes a line the replacement, and clears the message.
+    fn take_replacement(&mut self, line: InputLine)
+        requires asked { asks_replacement self.old.editor.search_state ≡ true }
+        requires few { length (chars line.text) ≤ 64 }
+        requires place { IsTextPlace (D.data self.old.tables) line.text line.cursor }
+        ensures { self.new ≡ record self.old { editor = with_replacement (cleared self.old.editor) line } }
+    {
+        self.replacement = line.text;
+        self.input_cursor = line.cursor;
+        self.cursor.search_state = SearchState::WithTyped;
+        self.reset_after_key();
+    }
+
+    /// Puts a character other than a line feed into the replacement. A tab or another character that separates paragraphs only clears
+    /// the message.
     pub(crate) fn type_replacement(&mut self, c: char) -> Result<(), OutOfMemory>
         requires asked { asks_replacement self.old.editor.search_state ≡ true }
         ensures ok { OnOk result (self.new ≡ record self.old {
@@ -64,26 +80,52 @@ impl<D: BidiData + Drop> Editor<D> {
         }) }
         ensures err { OnErr result (self.new ≡ self.old) }
     {
-        if c != '\t' && !self.document.separates(c) {
-            let kept = kept(self.cursor.search_state, self.replacement.as_str());
-            let replacement = lengthened(*self.replacement.allocator(), kept, c, LONGEST_QUERY)?;
-            self.replacement = replacement;
-            self.cursor.search_state = SearchState::WithTyped;
+        if c == '\t' || self.document.separates(c) {
+            self.reset_after_key();
+            return Ok(());
         }
-        self.reset_after_key();
+        let replacement = self.replacement.as_str();
+        let (replacement, cursor) = kept(self.cursor.search_state, replacement, self.input_cursor);
+        let mut line = InputLine::of(*self.replacement.allocator(), replacement, cursor)?;
+        line.insert(&self.document, c, LONGEST_QUERY)?;
+        self.take_replacement(line);
         Ok(())
     }
 
-    /// Removes the replacement's last character.
-    pub(crate) fn shorten_replacement(&mut self) -> Result<(), OutOfMemory>
+    /// Removes what an erasure removes from the replacement. Where that is nothing, only clears the message.
+    pub(crate) fn erase_in_replacement(&mut self, how: Erasure) -> Result<(), OutOfMemory>
         requires asked { asks_replacement self.old.editor.search_state ≡ true }
-        ensures ok { OnOk result (self.new ≡ record self.old { editor = after_shorter_replacement (cleared self.old.editor) }) }
+        ensures ok { OnOk result (self.new ≡ record self.old {
+          editor = after_erasing_replacement (D.data self.old.tables) (cleared self.old.editor) how;
+        }) }
         ensures err { OnErr result (self.new ≡ self.old) }
     {
-        let kept = kept(self.cursor.search_state, self.replacement.as_str());
-        let replacement = shortened(*self.replacement.allocator(), kept)?;
-        self.replacement = replacement;
-        self.cursor.search_state = SearchState::WithTyped;
+        let mut line = InputLine::of(
+            *self.replacement.allocator(),
+            self.replacement.as_str(),
+            self.input_cursor,
+        )?;
+        if line.erase(&self.document, how)? {
+            self.take_replacement(line);
+        } else {
+            self.reset_after_key();
+        }
+        Ok(())
+    }
+
+    /// Moves the cursor in the replacement.
+    pub(crate) fn move_in_replacement(&mut self, m: Move) -> Result<(), OutOfMemory>
+        requires asked { asks_replacement self.old.editor.search_state ≡ true }
+        ensures ok { OnOk result (self.new ≡ record self.old {
+          editor = after_moving_in (D.data self.old.tables) (cleared self.old.editor) self.old.editor.replacement m;
+        }) }
+        ensures err { OnErr result (self.new ≡ self.old) }
+    {
+        let cursor = self
+            .document
+            .moved_in_line(self.replacement.as_str(), m, self.input_cursor)?;
+        self.input_cursor = cursor;
+        self.cursor.search_state = as_typed(self.cursor.search_state);
         self.reset_after_key();
         Ok(())
     }

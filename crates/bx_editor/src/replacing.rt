@@ -6,7 +6,7 @@ ghost use Rattle.bx_text.specs.Changes.{IsRange};
 ghost use Rattle.bx_view.specs.Places.{IsTextPlace};
 ghost use Rattle.bx_editor.specs.Editor.{cleared};
 ghost use Rattle.bx_editor.specs.Replacing.{after_ending, after_passing_over, after_replacing, after_replacing_all};
-ghost use Rattle.bx_editor.specs.Replacing.{match_stop, next_match, seen, with_matches_replaced};
+ghost use Rattle.bx_editor.specs.Replacing.{found_here, match_or_region, match_stop, next_match, seen, with_matches_replaced};
 ghost use Rattle.bx_editor.specs.Functions.{next_behind};
 ghost use Rattle.bx_editor.specs.Search.{sought};
 
@@ -17,6 +17,7 @@ use crate::search_state::SearchState;
 use bx_common::{OutOfMemory, Range};
 use bx_find::Query;
 use bx_ucd::BidiData;
+use bx_view::{Logical, Move};
 
 impl<D: BidiData + Drop> Editor<D> {
     /// The query, of which a match is shown. Allocates nothing.
@@ -43,17 +44,55 @@ impl<D: BidiData + Drop> Editor<D> {
             .match_end(reading_of(self.purpose), &query, self.at)
     }
 
-    /// The part of the text in the other rendition: the units of the match that is shown, else the region. Allocates nothing.
-    pub(crate) fn seen(&self) -> Range
-        ensures start { result.start ≡ (seen (D.data self.now.tables) self.now.editor).0 }
-        ensures stop { result.stop ≡ (seen (D.data self.now.tables) self.now.editor).1 }
+    /// The first match that begins in the unit at the place, if there is one.
+    fn found_here(&mut self, query: &Query) -> Result<Option<usize>, OutOfMemory>
+        requires query { query.now ≡ sought (D.data self.old.tables) self.old.editor }
+        ensures same { self.new ≡ self.old }
+        ensures found { IfOk result (λ at. at ≡ found_here (D.data self.old.tables) self.old.editor) }
+        ensures boundary { IfOk result (λ at. IfSome at (IsCharBoundary self.old.editor.content.text)) }
+    {
+        let stop = self.on_by(Move::Logical(Logical::Forward))?;
+        let reading = reading_of(self.purpose);
+        Ok(self
+            .document
+            .first_between(reading, query, self.cursor.place, stop))
+    }
+
+    /// The units of the match that the query led to; without one the region.
+    fn match_or_region(&mut self) -> Result<Range, OutOfMemory>
+        ensures same { self.new ≡ self.old }
+        ensures start { IfOk result (λ r. r.start ≡ (match_or_region (D.data self.old.tables) self.old.editor (found_here (D.data self.old.tables) self.old.editor)).0) }
+        ensures stop { IfOk result (λ r. r.stop ≡ (match_or_region (D.data self.old.tables) self.old.editor (found_here (D.data self.old.tables) self.old.editor)).1) }
+    {
+        let Some(query) = self.sought() else {
+            return Ok(self.region());
+        };
+        match self.found_here(&query)? {
+            None => Ok(self.region()),
+            Some(at) => Ok(Range {
+                start: self.cursor.place,
+                stop: self
+                    .document
+                    .match_end(reading_of(self.purpose), &query, at),
+            }),
+        }
+    }
+
+    /// The part of the text in the other rendition: the units of the match that is shown, or that the query led to; else the region.
+    pub(crate) fn seen(&mut self) -> Result<Range, OutOfMemory>
+        ensures same { self.new ≡ self.old }
+        ensures start { IfOk result (λ r. r.start ≡ (seen (D.data self.old.tables) self.old.editor).0) }
+        ensures stop { IfOk result (λ r. r.stop ≡ (seen (D.data self.old.tables) self.old.editor).1) }
     {
         match self.cursor.search_state {
-            SearchState::Replacing => Range {
+            SearchState::Off | SearchState::Begun => Ok(self.region()),
+            SearchState::Replacing => Ok(Range {
                 start: self.cursor.place,
                 stop: self.match_stop(),
-            },
-            _ => self.region(),
+            }),
+            SearchState::Typed | SearchState::WithBegun | SearchState::WithTyped => {
+                self.match_or_region()
+            }
         }
     }
 

@@ -1,69 +1,105 @@
 //! The keys of a search: while the query is asked for, while the replacement is, and while a match is shown.
 ghost use Rattle.std.specs.Prelude.{◌≡◌, true, OnErr, OnOk};
 ghost use Rattle.bx_view.specs.Places.{IsTextPlace};
-ghost use Rattle.bx_editor.specs.Editor.{cleared, with_typing};
+ghost use Rattle.bx_editor.specs.Answering.{answer_of, without_line};
 ghost use Rattle.bx_editor.specs.Before.{before};
-ghost use Rattle.bx_editor.specs.Keys.{after_pressing, after_seeking, answer_of, answered_match, answered_replacement, is_edit_or_move};
+ghost use Rattle.bx_editor.specs.Editor.{cleared, with_typing};
+ghost use Rattle.bx_editor.specs.InputLines.{after_taking, behind_letter, ends_line, is_taken};
+ghost use Rattle.bx_editor.specs.Keys.{after_pressing, answered, answered_match, answered_replacement, is_edit_or_move};
 ghost use Rattle.bx_editor.specs.Origin.{asks_replacement, is_queried};
 ghost use Rattle.bx_editor.specs.Putting.{only_paste};
 ghost use Rattle.bx_editor.specs.Replacing.{after_match_letter, after_replacement_letter, after_sought_end, after_sought_letter};
 ghost use Rattle.bx_editor.specs.Search.{without_search};
 
+use crate::answer::{Answer, answer_of};
 use crate::editor::Editor;
 use crate::putting::{is_paste, only_paste};
-use crate::search_state::{SearchPurpose, SearchState};
+use crate::search_state::SearchPurpose;
 use crate::undo_groups::Typing;
 use bx_common::OutOfMemory;
+use bx_document::Document;
 use bx_keys::Key;
 use bx_store::StoreFault;
 use bx_ucd::BidiData;
-use bx_view::Vertical;
+
+/// Whether a pasted character ends what a paste brings into an input line.
+fn ends_line<D: BidiData + Drop>(document: &Document<D>, c: char) -> bool
+    ensures { result ≡ ends_line (D.data document.now.tables) c }
+{
+    c == '\n' || document.separates(c)
+}
 
 impl<D: BidiData + Drop> Editor<D> {
-    /// Applies a line end in a search: in one for replacing it asks for the replacement, but a pasted one asks nothing; in one for
-    /// finding it ends the search, and what a paste then brings goes into the text.
+    /// Whether a character that is typed or pasted in an input line does something.
+    pub(crate) fn is_taken(&self, c: char) -> bool
+        ensures { result ≡ is_taken (D.data self.now.tables) self.now.editor.typing c }
+    {
+        match self.typing {
+            Typing::Paste => !ends_line(&self.document, c),
+            Typing::Spent => false,
+            _ => true,
+        }
+    }
+
+    /// What goes on behind a character that is typed or pasted in an input line.
+    pub(crate) fn behind_letter(&self, c: char) -> Typing
+        ensures { result ≡ behind_letter (D.data self.now.tables) self.now.editor.typing c }
+    {
+        match self.typing {
+            Typing::Paste if !ends_line(&self.document, c) => Typing::Paste,
+            Typing::Paste | Typing::Spent => Typing::Spent,
+            _ => Typing::Off,
+        }
+    }
+
+    /// Applies a line end in a search: in one for replacing it asks for the replacement, in one for finding it ends the search.
     fn end_query(&mut self) -> Result<(), OutOfMemory>
         requires origin { IsTextPlace (D.data self.old.tables) self.old.editor.content.text self.old.editor.origin }
         requires queried { is_queried self.old.editor.search_state ≡ true }
         ensures ok { OnOk result (self.new ≡ record self.old {
-          editor = with_typing (after_sought_end (D.data self.old.tables) self.old.editor.typing (cleared self.old.editor))
-              (only_paste self.old.editor.typing);
+          editor = after_sought_end (D.data self.old.tables) (cleared self.old.editor);
         }) }
         ensures err { OnErr result (self.new ≡ self.old) }
     {
-        let typing = self.typing;
         if self.purpose == SearchPurpose::Replace {
-            if is_paste(typing) {
-                self.clear_message();
-                return Ok(());
-            }
             return self.ask_replacement();
         }
         self.end_search();
-        if is_paste(typing) {
-            self.begin_paste();
-            self.typing = Typing::Paste;
-            return Ok(());
-        }
         Ok(())
     }
 
-    /// Applies a character that is typed while the query is asked for; a paste goes on behind it.
-    fn answer(&mut self, c: char) -> Result<(), OutOfMemory>
+    /// Applies a character that is typed while the query is asked for.
+    fn seek_letter(&mut self, c: char) -> Result<(), OutOfMemory>
         requires origin { IsTextPlace (D.data self.old.tables) self.old.editor.content.text self.old.editor.origin }
         requires queried { is_queried self.old.editor.search_state ≡ true }
         ensures ok { OnOk result (self.new ≡ record self.old {
-          editor = with_typing (after_sought_letter (D.data self.old.tables) self.old.editor.typing (cleared self.old.editor) c)
-              (only_paste self.old.editor.typing);
+          editor = after_sought_letter (D.data self.old.tables) (cleared self.old.editor) c;
         }) }
         ensures err { OnErr result (self.new ≡ self.old) }
     {
         if c == '\n' {
             return self.end_query();
         }
-        let typing = self.typing;
-        self.type_letter(c)?;
-        self.typing = only_paste(typing);
+        self.type_letter(c)
+    }
+
+    /// Applies a character that is typed or pasted while the query is asked for.
+    fn answer(&mut self, c: char) -> Result<(), OutOfMemory>
+        requires origin { IsTextPlace (D.data self.old.tables) self.old.editor.content.text self.old.editor.origin }
+        requires queried { is_queried self.old.editor.search_state ≡ true }
+        ensures ok { OnOk result (self.new ≡ record self.old {
+          editor = after_taking (D.data self.old.tables) self.old.editor.typing c (cleared self.old.editor)
+              (after_sought_letter (D.data self.old.tables) (cleared self.old.editor) c);
+        }) }
+        ensures err { OnErr result (self.new ≡ self.old) }
+    {
+        let behind = self.behind_letter(c);
+        if self.is_taken(c) {
+            self.seek_letter(c)?;
+        } else {
+            self.reset_after_key();
+        }
+        self.typing = behind;
         Ok(())
     }
 
@@ -76,58 +112,59 @@ impl<D: BidiData + Drop> Editor<D> {
         requires origin { IsTextPlace (D.data self.old.tables) self.old.editor.content.text self.old.editor.origin }
         requires queried { is_queried self.old.editor.search_state ≡ true }
         ensures ok { OnOk result (self.new.editor
-            ≡ after_seeking (D.data self.old.tables) fault (before self.old.editor) (cleared self.old.editor) key) }
+            ≡ answered (D.data self.old.tables) fault (before self.old.editor) (cleared self.old.editor) key (answer_of key)) }
         ensures tables { self.new.tables ≡ self.old.tables }
         ensures err { OnErr result (self.new ≡ self.old) }
         ensures edits { OnErr result (is_edit_or_move key ≡ true) }
     {
-        match key {
-            Key::Insert(c) => self.answer(c)?,
-            Key::NewLine => self.answer('\n')?,
-            Key::Erase | Key::Delete | Key::ErasePoint => self.shorten()?,
-            Key::Find | Key::FindNext => self.find_next()?,
-            Key::FindBack => self.find_previous()?,
-            Key::Replace => self.ask_replacement()?,
-            Key::Quit | Key::Copy | Key::Cancel => self.give_up(),
-            Key::Repaint => self.clear_message(),
-            Key::ScrollBack => self.wheel(Vertical::Up)?,
-            Key::ScrollOn => self.wheel(Vertical::Down)?,
-            _ => self.press_last(key, fault)?,
+        match answer_of(key) {
+            Answer::Letter(c) => self.answer(c)?,
+            Answer::Erases(how) => self.erase_in_query(how)?,
+            Answer::Moves(m) => self.move_in_query(m)?,
+            Answer::PutsIn => self.put_in_line()?,
+            Answer::Passes => self.reset_after_key(),
+            Answer::GoesBack => self.give_up(),
+            Answer::Next => self.find_next()?,
+            Answer::Previous => self.find_previous()?,
+            Answer::Replaces => self.ask_replacement()?,
+            Answer::Scrolls(way) => self.wheel(way)?,
+            Answer::Stays => self.clear_message(),
+            Answer::Ends => self.press_behind(key, fault)?,
         }
         Ok(())
     }
 
-    /// Applies a key with its usual effect, and ends the search.
-    fn press_last(&mut self, key: Key, fault: Option<StoreFault>) -> Result<(), OutOfMemory>
-        ensures ok { OnOk result (self.new.editor
-            ≡ without_search (after_pressing (D.data self.old.tables) fault (before self.old.editor) (cleared self.old.editor) key)) }
-        ensures tables { self.new.tables ≡ self.old.tables }
-        ensures err { OnErr result (self.new ≡ self.old) }
-        ensures edits { OnErr result (is_edit_or_move key ≡ true) }
-    {
-        self.press(key, fault)?;
-        self.leave_search();
-        Ok(())
-    }
-
-    /// Applies a character that is typed as part of the replacement; a paste goes on behind it.
-    fn answer_replacement(&mut self, c: char) -> Result<(), OutOfMemory>
+    /// Applies a character that is typed while the replacement is asked for.
+    fn take_letter(&mut self, c: char) -> Result<(), OutOfMemory>
         requires asked { asks_replacement self.old.editor.search_state ≡ true }
         ensures ok { OnOk result (self.new ≡ record self.old {
-          editor = with_typing (after_replacement_letter (D.data self.old.tables) self.old.editor.typing (cleared self.old.editor) c)
-              (only_paste self.old.editor.typing);
+          editor = after_replacement_letter (D.data self.old.tables) (cleared self.old.editor) c;
         }) }
         ensures err { OnErr result (self.new ≡ self.old) }
     {
-        let typing = self.typing;
-        if c != '\n' {
-            self.type_replacement(c)?;
-        } else if is_paste(typing) {
-            self.clear_message();
-        } else {
+        if c == '\n' {
             self.show_match();
+            return Ok(());
         }
-        self.typing = only_paste(typing);
+        self.type_replacement(c)
+    }
+
+    /// Applies a character that is typed or pasted while the replacement is asked for.
+    fn answer_replacement(&mut self, c: char) -> Result<(), OutOfMemory>
+        requires asked { asks_replacement self.old.editor.search_state ≡ true }
+        ensures ok { OnOk result (self.new ≡ record self.old {
+          editor = after_taking (D.data self.old.tables) self.old.editor.typing c (cleared self.old.editor)
+              (after_replacement_letter (D.data self.old.tables) (cleared self.old.editor) c);
+        }) }
+        ensures err { OnErr result (self.new ≡ self.old) }
+    {
+        let behind = self.behind_letter(c);
+        if self.is_taken(c) {
+            self.take_letter(c)?;
+        } else {
+            self.reset_after_key();
+        }
+        self.typing = behind;
         Ok(())
     }
 
@@ -145,17 +182,18 @@ impl<D: BidiData + Drop> Editor<D> {
         ensures err { OnErr result (self.new ≡ self.old) }
         ensures edits { OnErr result (is_edit_or_move key ≡ true) }
     {
-        match key {
-            Key::Insert(c) => self.answer_replacement(c)?,
-            Key::NewLine => self.answer_replacement('\n')?,
-            Key::Erase | Key::Delete | Key::ErasePoint => self.shorten_replacement()?,
-            Key::Find | Key::FindNext | Key::FindBack => self.begin_search(SearchPurpose::Find),
-            Key::Replace => self.show_match(),
-            Key::Quit | Key::Copy | Key::Cancel => self.give_up(),
-            Key::Repaint => self.clear_message(),
-            Key::ScrollBack => self.wheel(Vertical::Up)?,
-            Key::ScrollOn => self.wheel(Vertical::Down)?,
-            _ => self.press_behind(key, fault)?,
+        match answer_of(key) {
+            Answer::Letter(c) => self.answer_replacement(c)?,
+            Answer::Erases(how) => self.erase_in_replacement(how)?,
+            Answer::Moves(m) => self.move_in_replacement(m)?,
+            Answer::PutsIn => self.put_in_line()?,
+            Answer::Passes => self.reset_after_key(),
+            Answer::GoesBack => self.give_up(),
+            Answer::Next | Answer::Previous => self.begin_search(SearchPurpose::Find),
+            Answer::Replaces => self.show_match(),
+            Answer::Scrolls(way) => self.wheel(way)?,
+            Answer::Stays => self.clear_message(),
+            Answer::Ends => self.press_behind(key, fault)?,
         }
         Ok(())
     }
@@ -186,22 +224,20 @@ impl<D: BidiData + Drop> Editor<D> {
     ) -> Result<(), OutOfMemory>
         requires shown { self.old.editor.search_state ≡ SearchState.Replacing }
         ensures ok { OnOk result (self.new.editor
-            ≡ answered_match (D.data self.old.tables) fault (before self.old.editor) (cleared self.old.editor) key (answer_of key)) }
+            ≡ answered_match (D.data self.old.tables) fault (before self.old.editor) (cleared self.old.editor) key (without_line (answer_of key))) }
         ensures tables { self.new.tables ≡ self.old.tables }
         ensures err { OnErr result (self.new ≡ self.old) }
         ensures edits { OnErr result (is_edit_or_move key ≡ true) }
     {
-        match key {
-            Key::Insert(c) => self.answer_match(c)?,
-            Key::NewLine => self.answer_match('\n')?,
-            Key::Find | Key::FindNext => self.pass_over()?,
-            Key::Replace => self.replace_all()?,
-            Key::FindBack => self.begin_search(SearchPurpose::Find),
-            Key::Erase | Key::Delete | Key::ErasePoint => self.reset_after_key(),
-            Key::Quit | Key::Copy | Key::Cancel => self.end_replacing(),
-            Key::Repaint => self.clear_message(),
-            Key::ScrollBack => self.wheel(Vertical::Up)?,
-            Key::ScrollOn => self.wheel(Vertical::Down)?,
+        match answer_of(key).without_line() {
+            Answer::Letter(c) => self.answer_match(c)?,
+            Answer::Erases(_) => self.reset_after_key(),
+            Answer::GoesBack => self.end_replacing(),
+            Answer::Next => self.pass_over()?,
+            Answer::Previous => self.begin_search(SearchPurpose::Find),
+            Answer::Replaces => self.replace_all()?,
+            Answer::Scrolls(way) => self.wheel(way)?,
+            Answer::Stays => self.clear_message(),
             _ => self.press_behind(key, fault)?,
         }
         Ok(())

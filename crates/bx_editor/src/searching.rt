@@ -1,15 +1,17 @@
 //! The calls by which a search begins, goes on and is given up, and FindNext outside a search. `keys.rt` and `search_keys.rt` say
 //! which key makes which call.
-ghost use Rattle.std.specs.Prelude.{◌≡◌, ◌==◌, not, length, IfOk, IfSome, OnErr, OnOk};
+ghost use Rattle.std.specs.Prelude.{◌≡◌, ◌≤◌, ◌==◌, not, true, chars, length, IfOk, IfSome, OnErr, OnOk};
 ghost use Rattle.bx_view.specs.Places.{IsTextPlace};
 ghost use Rattle.bx_editor.specs.Editor.{cleared};
-ghost use Rattle.bx_editor.specs.Search.{after_beginning, after_find, after_find_back, after_find_next, after_giving_up, after_letter, after_shortening, landed, next_or_start, sought, without_search};
+ghost use Rattle.bx_editor.specs.Origin.{is_queried};
+ghost use Rattle.bx_editor.specs.Search.{after_beginning, after_erasing_query, after_find, after_find_back, after_find_next, after_find_previous, after_giving_up, after_letter};
+ghost use Rattle.bx_editor.specs.Search.{after_moving_in, landed, next_or_start, search_on, sought, sought_alone, with_query, without_search};
 ghost use Rattle.bx_editor.specs.Region.{unselected};
 
 use crate::editor::Editor;
+use crate::input_line::{Erasure, InputLine};
 use crate::matches::{Landing, backward, forward, has_letters};
-use crate::query::{LONGEST_QUERY, kept, reading_of};
-use crate::questions::{lengthened, shortened};
+use crate::query::{LONGEST_QUERY, as_typed, kept, reading_of};
 use crate::search_state::{SearchPurpose, SearchState};
 use crate::undo_groups::Typing;
 use bx_common::OutOfMemory;
@@ -18,7 +20,7 @@ use bx_ucd::BidiData;
 use bx_view::{Logical, Move};
 
 impl<D: BidiData + Drop> Editor<D> {
-    /// Begins a search at the place, with the query of the latest one. An old selection is taken off.
+    /// Begins a search at the place, with the query of the latest one and the cursor at its end. An old selection is taken off.
     pub(crate) fn begin_search(&mut self, purpose: SearchPurpose)
         ensures { self.new ≡ record self.old { editor = after_beginning purpose (unselected (cleared self.old.editor)) } }
     {
@@ -26,6 +28,7 @@ impl<D: BidiData + Drop> Editor<D> {
         self.origin = self.cursor.place;
         self.cursor.search_state = SearchState::Begun;
         self.purpose = purpose;
+        self.input_cursor = self.query.len();
         self.reset_after_key();
     }
 
@@ -68,10 +71,39 @@ impl<D: BidiData + Drop> Editor<D> {
         self.cursor.search_state = SearchState::Typed;
     }
 
-    /// Appends a character to the query, and seeks it from the place on. A tab, or a character that separates paragraphs, only clears
-    /// the message.
+    /// Makes a line the query, and seeks it: from the place on, or, if it did not grow at its end, from where the search began.
+    fn search_with(&mut self, line: InputLine, grows: bool) -> Result<(), OutOfMemory>
+        requires origin { IsTextPlace (D.data self.old.tables) self.old.editor.content.text self.old.editor.origin }
+        requires few { length (chars line.text) ≤ 64 }
+        requires place { IsTextPlace (D.data self.old.tables) line.text line.cursor }
+        ensures ok { OnOk result (self.new ≡ record self.old {
+          editor = search_on (D.data self.old.tables) grows (with_query (cleared self.old.editor) line);
+        }) }
+        ensures err { OnErr result (self.new ≡ self.old) }
+    {
+        let from = if grows {
+            self.cursor.place
+        } else {
+            self.origin
+        };
+        let landing = forward(
+            &mut self.document,
+            reading_of(self.purpose),
+            line.text.as_str(),
+            from,
+        )?;
+        self.cursor.search_state = SearchState::Typed;
+        self.query = line.text;
+        self.input_cursor = line.cursor;
+        self.cursor.place = from;
+        self.land(landing);
+        Ok(())
+    }
+
+    /// Puts a character into the query, and seeks it. A tab, or a character that separates paragraphs, only clears the message.
     pub(crate) fn type_letter(&mut self, c: char) -> Result<(), OutOfMemory>
         requires origin { IsTextPlace (D.data self.old.tables) self.old.editor.content.text self.old.editor.origin }
+        requires queried { is_queried self.old.editor.search_state ≡ true }
         ensures ok { OnOk result (self.new ≡ record self.old {
           editor = after_letter (D.data self.old.tables) (cleared self.old.editor) c;
         }) }
@@ -81,40 +113,49 @@ impl<D: BidiData + Drop> Editor<D> {
             self.reset_after_key();
             return Ok(());
         }
-        let kept = kept(self.cursor.search_state, self.query.as_str());
-        let query = lengthened(*self.query.allocator(), kept, c, LONGEST_QUERY)?;
-        let landing = forward(
-            &mut self.document,
-            reading_of(self.purpose),
-            query.as_str(),
-            self.cursor.place,
-        )?;
-        self.cursor.search_state = SearchState::Typed;
-        self.query = query;
-        self.land(landing);
-        Ok(())
+        let (query, cursor) = kept(self.cursor.search_state, self.query.as_str(), self.input_cursor);
+        let grows = cursor == query.len();
+        let mut line = InputLine::of(*self.query.allocator(), query, cursor)?;
+        line.insert(&self.document, c, LONGEST_QUERY)?;
+        self.search_with(line, grows)
     }
 
-    /// Removes the query's last character, and seeks the rest from where the search began.
-    pub(crate) fn shorten(&mut self) -> Result<(), OutOfMemory>
+    /// Removes what an erasure removes from the query, and seeks the rest from where the search began. Where that is nothing, only
+    /// clears the message.
+    pub(crate) fn erase_in_query(&mut self, how: Erasure) -> Result<(), OutOfMemory>
         requires origin { IsTextPlace (D.data self.old.tables) self.old.editor.content.text self.old.editor.origin }
+        requires queried { is_queried self.old.editor.search_state ≡ true }
         ensures ok { OnOk result (self.new ≡ record self.old {
-          editor = after_shortening (D.data self.old.tables) (cleared self.old.editor);
+          editor = after_erasing_query (D.data self.old.tables) (cleared self.old.editor) how;
         }) }
         ensures err { OnErr result (self.new ≡ self.old) }
     {
-        let kept = kept(self.cursor.search_state, self.query.as_str());
-        let query = shortened(*self.query.allocator(), kept)?;
-        let landing = forward(
-            &mut self.document,
-            reading_of(self.purpose),
-            query.as_str(),
-            self.origin,
+        let mut line = InputLine::of(
+            *self.query.allocator(),
+            self.query.as_str(),
+            self.input_cursor,
         )?;
-        self.cursor.search_state = SearchState::Typed;
-        self.query = query;
-        self.cursor.place = self.origin;
-        self.land(landing);
+        if !line.erase(&self.document, how)? {
+            self.reset_after_key();
+            return Ok(());
+        }
+        self.search_with(line, false)
+    }
+
+    /// Moves the cursor in the query.
+    pub(crate) fn move_in_query(&mut self, m: Move) -> Result<(), OutOfMemory>
+        requires queried { is_queried self.old.editor.search_state ≡ true }
+        ensures ok { OnOk result (self.new ≡ record self.old {
+          editor = after_moving_in (D.data self.old.tables) (cleared self.old.editor) self.old.editor.query m;
+        }) }
+        ensures err { OnErr result (self.new ≡ self.old) }
+    {
+        let cursor = self
+            .document
+            .moved_in_line(self.query.as_str(), m, self.input_cursor)?;
+        self.input_cursor = cursor;
+        self.cursor.search_state = as_typed(self.cursor.search_state);
+        self.reset_after_key();
         Ok(())
     }
 
@@ -152,6 +193,19 @@ impl<D: BidiData + Drop> Editor<D> {
         Ok(())
     }
 
+    /// Moves the cursor to where a search led, if anywhere, and sets its message; no search is on, and an old selection is taken off.
+    /// Allocates nothing.
+    fn settle_alone(&mut self, landing: Landing)
+        requires place { IfSome landing.place (IsTextPlace (D.data self.old.tables) self.old.editor.content.text) }
+        ensures { self.new ≡ record self.old { editor = landed (sought_alone (unselected (cleared self.old.editor))) landing } }
+    {
+        self.origin = self.cursor.place;
+        self.settle_at(landing);
+        self.cursor.search_state = SearchState::Off;
+        self.purpose = SearchPurpose::Find;
+        self.unselect();
+    }
+
     /// Whether the query has letters, as the latest search read it.
     fn has_query(&self) -> bool
         ensures { result ≡ not (length (sought (D.data self.now.tables) self.now.editor) == 0) }
@@ -177,10 +231,24 @@ impl<D: BidiData + Drop> Editor<D> {
         let next = self.next_or_start()?;
         let query = self.query.as_str();
         let landing = forward(&mut self.document, Reading::Wide, query, next)?;
-        self.settle_at(landing);
-        self.cursor.search_state = SearchState::Off;
-        self.purpose = SearchPurpose::Find;
-        self.unselect();
+        self.settle_alone(landing);
+        Ok(())
+    }
+
+    /// Goes to the previous match, and no search is on. If the query has no letters, begins a search. An old selection is taken off.
+    pub(crate) fn go_to_previous(&mut self) -> Result<(), OutOfMemory>
+        ensures ok { OnOk result (self.new ≡ record self.old {
+          editor = after_find_previous (D.data self.old.tables) (unselected (cleared self.old.editor));
+        }) }
+        ensures err { OnErr result (self.new ≡ self.old) }
+    {
+        if !self.has_query() {
+            self.begin_search(SearchPurpose::Find);
+            return Ok(());
+        }
+        let query = self.query.as_str();
+        let landing = backward(&mut self.document, Reading::Wide, query, self.cursor.place)?;
+        self.settle_alone(landing);
         Ok(())
     }
 

@@ -67,5 +67,6 @@ impl<D: BidiData + Drop> Editor<D> {
         self.tab_width = settings.tab_width;
         self.home = is_home(&settings.name);
         self.name = settings.name;
+        self.drawn_name = None;
     }
 }

@@ -1,15 +1,14 @@
 //! The status row.
-ghost use Rattle.std.specs.Prelude.{◌≡◌, ◌++◌, true, All, IfOk, chars, length, string_bytes};
+ghost use Rattle.std.specs.Prelude.{◌≡◌, true, IfOk, option_map, string_bytes};
 ghost use Rattle.bx_common.specs.Characters.{are_ascii_printable};
-ghost use Rattle.bx_document.specs.Narrow.{IsNarrow};
-ghost use Rattle.bx_editor.specs.Status.{glyph_row, letter_glyphs, prompt_glyphs, prompt_text, query_prompt, search_glyphs, search_prompt, status_line, typed_glyphs};
+ghost use Rattle.bx_editor.specs.InputLines.{input_line_of, search_line};
+ghost use Rattle.bx_editor.specs.Status.{prompt_text, prompt_words, query_prompt, search_prompt, status_line};
 
 use crate::editor::Editor;
 use crate::questions::Prompt;
 use crate::search_state::{SearchPurpose, SearchState};
 use bx_common::OutOfMemory;
-use bx_document::Document;
-use bx_grid::Grid;
+use bx_document::{RowEnd, StatusRow};
 use bx_ucd::BidiData;
 use itoa::Buffer;
 use std::alloc::{AllocError, Global};
@@ -70,36 +69,7 @@ fn search_prompt(purpose: SearchPurpose, search_state: SearchState) -> &'static 
         SearchState::Off => "",
         SearchState::Begun | SearchState::Typed => query_prompt(purpose),
         SearchState::WithBegun | SearchState::WithTyped => " with: ",
-        SearchState::Replacing => " Enter replace ^W next F4 all ^C end",
-    }
-}
-
-/// Draws a status row whose text has the prompt of a search after it, and the query or the replacement.
-fn draw_search<D: BidiData + Drop>(
-    document: &Document<D>,
-    line: String,
-    purpose: SearchPurpose,
-    search_state: SearchState,
-    query: &str,
-    replacement: &str,
-) -> Result<Grid, OutOfMemory>
-    requires { are_ascii_printable (string_bytes line) ≡ true }
-    ensures row { IfOk result (λ row. row.columns ≡ glyph_row document.now.document.w
-        (letter_glyphs (string_bytes line)
-        ++ (letter_glyphs (search_prompt purpose search_state) ++ search_glyphs (D.data document.now.tables) query.now replacement.now search_state))) }
-    ensures filled { IfOk result (λ row. length row.columns ≡ document.now.document.w) }
-    ensures one { IfOk result (λ row. row.height ≡ 1) }
-    ensures wide { IfOk result (λ row. row.width ≡ document.now.document.w) }
-{
-    let mut line = line;
-    line.push_str(search_prompt(purpose, search_state))?;
-    match search_state {
-        SearchState::Off | SearchState::Replacing => document.draw_text(line.as_str()),
-        SearchState::Begun | SearchState::Typed => document.draw_query(line.as_str(), query),
-        SearchState::WithBegun | SearchState::WithTyped => document.draw_query(
-            line.as_str(),
-            replacement,
-        ),
+        SearchState::Replacing => " Enter replace F3 next F4 rest ^C end",
     }
 }
 
@@ -111,55 +81,87 @@ fn prompt_text(prompt: Prompt) -> &'static str
     match prompt {
         Prompt::Off => "",
         Prompt::Line => " line: ",
-        Prompt::Name => " insert: ",
+        Prompt::Name => {
+            " insert: i I f isolate P end l r a mark n j joiner e E o O p u code"
+        }
         Prompt::Code => " insert: U+",
+        Prompt::File => " save as: ",
+        Prompt::Overwrite => " overwrite it? y or n",
     }
 }
 
-/// Draws a status row whose text has the prompt of a question and its answer after it.
-fn draw_question<D: BidiData + Drop>(
-    document: &Document<D>,
-    line: String,
-    prompt: Prompt,
-    answer: &str,
-) -> Result<Grid, OutOfMemory>
-    requires line { are_ascii_printable (string_bytes line) ≡ true }
-    requires narrow { All IsNarrow (chars answer.now) }
-    ensures row { IfOk result (λ row. row.columns ≡ glyph_row document.now.document.w
-        (letter_glyphs (string_bytes line) ++ (letter_glyphs (prompt_text prompt) ++ typed_glyphs answer.now))) }
-    ensures filled { IfOk result (λ row. length row.columns ≡ document.now.document.w) }
-    ensures one { IfOk result (λ row. row.height ≡ 1) }
-    ensures wide { IfOk result (λ row. row.width ≡ document.now.document.w) }
-{
-    let mut line = line;
-    line.push_str(prompt_text(prompt))?;
-    // The proof compares the row, so it has a name.
-    let row = document.draw_typed(line.as_str(), answer)?;
-    Ok(row)
-}
-
 impl<D: BidiData + Drop> Editor<D> {
-    /// Draws the status row: its text, then the prompt of a question or a search, with what was typed after it.
-    pub(crate) fn draw_status(&self, line: String) -> Result<Grid, OutOfMemory>
-        requires { are_ascii_printable (string_bytes line) ≡ true }
-        ensures row { IfOk result (λ row. row.columns ≡ glyph_row self.now.editor.width
-            (letter_glyphs (string_bytes line) ++ prompt_glyphs (D.data self.now.tables) self.now.editor self.now.editor.prompt)) }
-        ensures filled { IfOk result (λ row. length row.columns ≡ self.now.editor.width) }
-        ensures one { IfOk result (λ row. row.height ≡ 1) }
-        ensures wide { IfOk result (λ row. row.width ≡ self.now.editor.width) }
+    /// The words of the prompt of a question, or without one of a search.
+    fn prompt_words(&self) -> &'static str
+        ensures text { result.now ≡ prompt_words self.now.editor self.now.editor.prompt }
+        ensures printable { are_ascii_printable result.now ≡ true }
     {
         match self.prompt {
-            Prompt::Off => draw_search(
-                &self.document,
-                line,
-                self.purpose,
-                self.cursor.search_state,
-                self.query.as_str(),
-                self.replacement.as_str(),
-            ),
-            Prompt::Line | Prompt::Name | Prompt::Code => {
-                draw_question(&self.document, line, self.prompt, self.answer.as_str())
+            Prompt::Off => search_prompt(self.purpose, self.cursor.search_state),
+            _ => prompt_text(self.prompt),
+        }
+    }
+
+    /// The query or the replacement, if one is asked for.
+    fn search_line(&self) -> Option<&str>
+        ensures { option_map (λ line. line.now) result ≡ search_line self.now.editor self.now.editor.search_state }
+    {
+        match self.cursor.search_state {
+            SearchState::Begun | SearchState::Typed => Some(self.query.as_str()),
+            SearchState::WithBegun | SearchState::WithTyped => Some(self.replacement.as_str()),
+            SearchState::Off | SearchState::Replacing => None,
+        }
+    }
+
+    /// The input line that the prompt shows, if it shows one.
+    fn input_line(&self) -> Option<&str>
+        ensures { option_map (λ line. line.now) result ≡ input_line_of self.now.editor }
+    {
+        match self.prompt {
+            Prompt::Off => self.search_line(),
+            Prompt::Line | Prompt::Code | Prompt::File => Some(self.answer.as_str()),
+            Prompt::Name | Prompt::Overwrite => None,
+        }
+    }
+
+    /// What stands at the end of the status row, in a session with a name.
+    fn row_end(&self, is_rtl: bool) -> Option<RowEnd<'_>> {
+        match &self.drawn_name {
+            Some(name) => Some(RowEnd { name, is_rtl }),
+            None => None,
+        }
+    }
+
+    /// Lays out the name, if there is one, unless that is done.
+    fn draw_name(&mut self) -> Result<(), OutOfMemory>
+        ensures same { self.new ≡ self.old }
+    {
+        if self.drawn_name.is_some() {
+            return Ok(());
+        }
+        if let Some(name) = &self.name {
+            self.drawn_name = Some(self.document.draw_name(name.as_str())?);
+        }
+        Ok(())
+    }
+
+    /// Draws the status row: its text, then the prompt of a question or a search, with what is typed there, and at its end the name.
+    /// `is_rtl`: the paragraph is read from right to left.
+    pub(crate) fn draw_status(&mut self, line: String, is_rtl: bool) -> Result<StatusRow, OutOfMemory>
+        requires { are_ascii_printable (string_bytes line) ≡ true }
+    {
+        self.draw_name()?;
+        let mut line = line;
+        line.push_str(self.prompt_words())?;
+        let end = self.row_end(is_rtl);
+        match self.input_line() {
+            None => {
+                let row = self.document.draw_text(line.as_str(), end)?;
+                Ok(StatusRow { row, column: None })
             }
+            Some(typed) => self
+                .document
+                .draw_input(line.as_str(), typed, self.input_cursor, end),
         }
     }
 }

@@ -1,5 +1,4 @@
--- An answer to a question while it is typed, a text in UTF-8 with a greatest number of characters, and what an answer to the question for
--- a line says.
+-- A text without its last character, and what an answer to the question for a line says.
 use Rattle.std.specs.Prelude.{ℕ, ◌-◌, nat_lt, List, ◌++◌, length, take, chars, encode_utf8, encode_utf8_all, if◌then◌else◌, ◌+◌, ◌*◌, ◌==◌}
 use Rattle.std.specs.Prelude.{◌||◌, Bool, max, is_some, fold, Option, Some, None, unwrap_or}
 use Rattle.std.specs.List.{after_first, before_first, list_any}
@@ -7,13 +6,9 @@ use Rattle.std.specs.Option.{option_map}
 use Rattle.bx_common.specs.Characters.{is_within}
 use Rattle.bx_editor.specs.declared.questions.line.Target.{Target}
 
--- the answer with one more character, if it has fewer than `limit`
-abbrev pub lengthened : ℕ → List ℕ → ℕ → List ℕ
-lengthened limit answer c = if nat_lt (length (chars answer)) limit then answer ++ encode_utf8 c else answer
-
--- the answer without its last character, if it has one
+-- a text without its last character, if it has one
 abbrev pub shortened : List ℕ → List ℕ
-shortened answer = encode_utf8_all (take (length (chars answer) - 1) (chars answer))
+shortened text = encode_utf8_all (take (length (chars text) - 1) (chars text))
 
 -- ---- the answer to the question for a line: a paragraph and a unit
 

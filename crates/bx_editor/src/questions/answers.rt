@@ -1,6 +1,6 @@
-//! The questions of the status row, and an answer while it is typed: a text with a greatest number of characters, `limit`.
+//! The questions of the status row, and a text without its last character.
 ghost use Rattle.std.specs.Prelude.{◌≡◌, ◌≤◌, IfOk, chars, length, string_bytes};
-ghost use Rattle.bx_editor.specs.questions.Answers.{lengthened, shortened};
+ghost use Rattle.bx_editor.specs.questions.Answers.{shortened};
 
 use std::alloc::{AllocError, Global};
 
@@ -28,26 +28,10 @@ pub(crate) fn char_count(text: &str) -> usize
     text.chars().count()
 }
 
-/// An answer with one more character, if it has fewer than `limit`.
+/// A text without its last character, if it has one.
 ///
 /// Errors: `AllocError`.
-pub fn lengthened(alloc: Global, answer: &str, c: char, limit: usize) -> Result<String, AllocError>
-    requires few { length (chars answer.now) ≤ limit }
-    ensures longer { IfOk result (λ a. string_bytes a ≡ lengthened limit answer.now c) }
-    ensures few { IfOk result (λ a. length (chars (string_bytes a)) ≤ limit) }
-{
-    let mut longer = String::from_str(alloc, answer)?;
-    if char_count(answer) >= limit {
-        return Ok(longer);
-    }
-    longer.push(c)?;
-    Ok(longer)
-}
-
-/// An answer without its last character, if it has one.
-///
-/// Errors: `AllocError`.
-pub fn shortened(alloc: Global, answer: &str) -> Result<String, AllocError>
+pub(crate) fn shortened(alloc: Global, answer: &str) -> Result<String, AllocError>
     ensures shorter { IfOk result (λ a. string_bytes a ≡ shortened answer.now) }
     ensures fewer { IfOk result (λ a. length (chars (string_bytes a)) ≤ length (chars answer.now)) }
 {

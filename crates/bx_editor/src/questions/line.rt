@@ -16,7 +16,7 @@ pub struct Target {
 }
 
 /// The value of a digit, in ASCII, Arabic-Indic or extended Arabic-Indic.
-fn digit_of(c: char) -> Option<usize>
+pub(crate) fn digit_of(c: char) -> Option<usize>
     ensures { result ≡ digit_of c }
 {
     let zero = match c {
