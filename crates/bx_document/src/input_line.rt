@@ -85,6 +85,7 @@ pub(crate) fn room_behind(glyphs: &[Drawn<'_>], room: u16) -> Option<u16>
 
 /// The first row of an input line: its glyphs, and the column of the cursor's cell, counted from 1 at the first glyph, if it is in
 /// that row.
+#[derive(Drop)]
 pub(crate) struct LineRow<'a> {
     pub(crate) picture: RowPicture<'a>,
     pub(crate) cell: Option<u16>,

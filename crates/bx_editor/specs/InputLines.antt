@@ -1,7 +1,7 @@
 -- What is typed at a prompt: an input line, a small text of one line with a cursor of its own. `d` is Unicode's data, `l` the line, `e` the
 -- editor; offsets and places count bytes of the line.
 use Rattle.std.specs.Prelude.{ℕ, ◌+◌, ◌-◌, ◌==◌, ◌||◌, nat_lt, Bool, true, false, not, List, [], length, take, chars, encode_utf8, if◌then◌else◌}
-use Rattle.std.specs.Prelude.{Option, Some, None}
+use Rattle.std.specs.Prelude.{Option, Some, None, IfSome}
 use Rattle.std.specs.List.{before_first}
 use Rattle.bx_ucd.specs.Data.{Data}
 use Rattle.bx_document.specs.InputLine.{line_rows}
@@ -10,6 +10,7 @@ use Rattle.bx_text.specs.Edits.{splice}
 use Rattle.bx_text.specs.index.Paragraphs.{is_separator}
 use Rattle.bx_view.specs.Moved.{moved}
 use Rattle.bx_view.specs.Moves.{place_from, step_logical}
+use Rattle.bx_view.specs.Places.{IsTextPlace}
 use Rattle.bx_view.specs.Words.{step_word}
 use Rattle.bx_view.specs.declared.moves.Logical.TheVariants as logical
 use Rattle.bx_view.specs.declared.moves.Move.{Move}
@@ -70,24 +71,33 @@ line_moved d m l = moved d l.text 500 (line_rows d l.text) m l.cursor
 -- ---- the line that a prompt shows
 
 -- by how far a search is: the query or the replacement
-abbrev pub search_line : Editor → SearchState → Option (List ℕ)
-search_line e search_states.Begun = Some e.query
-search_line e search_states.Typed = Some e.query
-search_line e search_states.WithBegun = Some e.replacement
-search_line e search_states.WithTyped = Some e.replacement
-search_line e _ = None
+abbrev pub search_line : SearchState → List ℕ → List ℕ → Option (List ℕ)
+search_line search_states.Begun query replacement = Some query
+search_line search_states.Typed query replacement = Some query
+search_line search_states.WithBegun query replacement = Some replacement
+search_line search_states.WithTyped query replacement = Some replacement
+search_line _ query replacement = None
 
--- by what is asked: the answer, where it is more than one letter; without a question that of the search
-abbrev pub prompt_line : Editor → Prompt → Option (List ℕ)
-prompt_line e prompts.Off = search_line e e.search_state
-prompt_line e prompts.Line = Some e.answer
-prompt_line e prompts.Code = Some e.answer
-prompt_line e prompts.File = Some e.answer
-prompt_line e _ = None
+-- the question's answer is an input line: it is more than one letter
+abbrev pub takes_line : Prompt → Bool
+takes_line prompts.Line = true
+takes_line prompts.Code = true
+takes_line prompts.File = true
+takes_line _ = false
+
+-- by what is asked: the answer, if it is an input line; without a question that of the search
+abbrev pub prompt_line : Prompt → SearchState → List ℕ → List ℕ → List ℕ → Option (List ℕ)
+prompt_line prompts.Off search_state query replacement answer = search_line search_state query replacement
+prompt_line prompt search_state query replacement answer = if takes_line prompt then Some answer else None
 
 -- the line that the prompt shows, if it shows one
 abbrev pub input_line_of : Editor → Option (List ℕ)
-input_line_of e = prompt_line e e.prompt
+input_line_of e = prompt_line e.prompt e.search_state e.query e.replacement e.answer
+
+-- the cursor stands at a place of that line
+abbrev pub StandsInLine : Data → Prompt → SearchState → List ℕ → List ℕ → List ℕ → ℕ → Type 0
+StandsInLine d prompt search_state query replacement answer cursor =
+    IfSome (prompt_line prompt search_state query replacement answer) (λ line. IsTextPlace d line cursor)
 
 -- ---- what is typed
 

@@ -1,7 +1,7 @@
 -- The status row: whether there are unsaved changes, the cursor's position, a message, and the prompt of a search or of a
 -- question with what is typed there; at its end the file's name and the direction of the cursor's paragraph. `d` is Unicode's data, `e` the editor.
 use Rattle.std.specs.Prelude.{ℕ, ◌+◌, nat_le, Bool, List, [], ◌++◌, Option, Some, None, codes, decimal, if◌then◌else◌, ◌==◌, length, chars}
-use Rattle.std.specs.Prelude.{slice_range}
+use Rattle.std.specs.Prelude.{◌≡◌, option_map, slice_range}
 use Rattle.bx_common.specs.declared.base.Base.TheVariants.{Auto, Ltr, Rtl}
 use Rattle.bx_keys.specs.declared.notice.Notice as told
 use Rattle.bx_keys.specs.declared.notice.Notice.TheVariants as notices
@@ -171,6 +171,11 @@ is_rtl d e = reads_on Left (row_at (rows d e) (row_of (rows d e) e.place)).row
 abbrev pub name_end : Data → Bool → Option (List ℕ) → Option (List Glyph × Bool)
 name_end d rtl None = None
 name_end d rtl (Some name) = Some (name_glyphs d name, rtl)
+
+-- glyphs of a name, if they were drawn, are the name's
+abbrev pub IsDrawn : Data → Option (List ℕ) → Option (List Glyph) → Type 0
+IsDrawn d name None = Unit {0}
+IsDrawn d name (Some glyphs) = option_map (name_glyphs d) name ≡ Some glyphs
 
 -- the glyphs of a status row from left to right
 abbrev pub row_glyphs : Data → Editor → List ℕ → Bool → List Glyph

@@ -1,12 +1,12 @@
 //! The keys that ask, and what answers a question: a line, a character by name or by code, a name to save under, and whether to overwrite.
-ghost use Rattle.std.specs.Prelude.{◌≡◌, ◌≤◌, if◌then◌else◌, IfOk, IfSome, IsOk, OnErr, OnOk, chars, length};
+ghost use Rattle.std.specs.Prelude.{◌≡◌, ◌≤◌, true, if◌then◌else◌, IfOk, IsOk, OnErr, OnOk, chars, length};
 ghost use Rattle.bx_view.specs.Places.{IsTextPlace};
 ghost use Rattle.bx_editor.specs.questions.Names.{closing, coded, named};
 ghost use Rattle.bx_editor.specs.Answers.{limit_of};
 ghost use Rattle.bx_editor.specs.Asking.{after_answer_letter, after_code, after_code_letter, after_erasing_answer, after_file_letter, after_going, after_line_letter};
 ghost use Rattle.bx_editor.specs.Asking.{after_name_key, after_name_letter, after_named, answer_lengthened, asking, target_place, with_answer, with_character, without_prompt};
 ghost use Rattle.bx_editor.specs.Editor.{cleared, with_typing};
-ghost use Rattle.bx_editor.specs.InputLines.{after_taking, prompt_line};
+ghost use Rattle.bx_editor.specs.InputLines.{after_taking, takes_line};
 ghost use Rattle.bx_editor.specs.Putting.{is_paste};
 ghost use Rattle.bx_editor.specs.Saving.{after_deciding};
 ghost use Rattle.bx_editor.specs.Search.{after_moving_in};
@@ -60,7 +60,7 @@ impl<D: BidiData + Drop> Editor<D> {
 
     /// Puts a character into the answer, unless it has as many as it may.
     fn lengthen(&mut self, c: char) -> Result<(), OutOfMemory>
-        requires line { IfSome (prompt_line self.old.editor self.old.editor.prompt) (λ line. line ≡ self.old.editor.answer) }
+        requires line { takes_line self.old.editor.prompt ≡ true }
         ensures ok { OnOk result (self.new ≡ record self.old {
           editor = answer_lengthened (D.data self.old.tables) (limit_of self.old.editor.prompt) (cleared self.old.editor) c;
         }) }
@@ -101,6 +101,7 @@ impl<D: BidiData + Drop> Editor<D> {
 
     /// Goes to the line and unit that the answer names.
     fn go(&mut self) -> Result<(), OutOfMemory>
+        requires prompt { self.old.editor.prompt ≡ Prompt.Line }
         ensures ok { OnOk result (self.new ≡ record self.old { editor = after_going (D.data self.old.tables) (cleared self.old.editor) }) }
         ensures err { OnErr result (self.new ≡ self.old) }
     {
@@ -307,7 +308,7 @@ impl<D: BidiData + Drop> Editor<D> {
     /// Removes what an erasure removes from the answer. At an empty code the question is that for a name again, if the last character was
     /// to be removed.
     pub(crate) fn erase_in_answer(&mut self, how: Erasure) -> Result<(), OutOfMemory>
-        requires line { IfSome (prompt_line self.old.editor self.old.editor.prompt) (λ line. line ≡ self.old.editor.answer) }
+        requires line { takes_line self.old.editor.prompt ≡ true }
         ensures ok { OnOk result (self.new ≡ record self.old {
           editor = after_erasing_answer (D.data self.old.tables) self.old.editor.prompt (cleared self.old.editor) how;
         }) }
@@ -333,7 +334,7 @@ impl<D: BidiData + Drop> Editor<D> {
 
     /// Moves the cursor in the answer.
     pub(crate) fn move_in_answer(&mut self, m: Move) -> Result<(), OutOfMemory>
-        requires line { IfSome (prompt_line self.old.editor self.old.editor.prompt) (λ line. line ≡ self.old.editor.answer) }
+        requires line { takes_line self.old.editor.prompt ≡ true }
         ensures ok { OnOk result (self.new ≡ record self.old {
           editor = after_moving_in (D.data self.old.tables) (cleared self.old.editor) self.old.editor.answer m;
         }) }

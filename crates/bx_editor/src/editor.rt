@@ -65,7 +65,9 @@ impl<D: BidiData + Drop> Model for Editor<D> {
     ghost use Rattle.bx_editor.specs.Answers.{IsAnswer};
     ghost use Rattle.bx_editor.specs.Clicks.{IsPressed};
     ghost use Rattle.bx_editor.specs.Functions.{EditorState};
+    ghost use Rattle.bx_editor.specs.InputLines.{StandsInLine};
     ghost use Rattle.bx_editor.specs.Origin.{BeganAt, StandsAt};
+    ghost use Rattle.bx_editor.specs.Status.{IsDrawn};
 
     ghost Value = { EditorState D };
 
@@ -119,6 +121,8 @@ impl<D: BidiData + Drop> Model for Editor<D> {
         × (length (chars (string_bytes e.query)) ≤ 64)
         × (length (chars (string_bytes e.replacement)) ≤ 64)
         × IsAnswer e.prompt (string_bytes e.answer)
+        × StandsInLine (D.data e.document.tables) e.prompt e.cursor.search_state (string_bytes e.query) (string_bytes e.replacement) (string_bytes e.answer) e.input_cursor
+        × IsDrawn (D.data e.document.tables) (option_map string_bytes e.name) e.drawn_name
         × BeganAt (D.data e.document.tables) e.document.document.content.text e.cursor.search_state e.origin
         × StandsAt (D.data e.document.tables) e.purpose (string_bytes e.query) e.document.document.content.text e.cursor.search_state e.at e.count };
 }

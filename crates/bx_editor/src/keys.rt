@@ -1,10 +1,11 @@
 //! The effect of each key.
-ghost use Rattle.std.specs.Prelude.{◌≡◌, None, Some, true, IfSome, IsOk, OnErr, OnOk, is_some};
+ghost use Rattle.std.specs.Prelude.{◌≡◌, None, Some, true, IsOk, OnErr, OnOk, is_some};
 ghost use Rattle.bx_editor.specs.Asking.{without_prompt};
 ghost use Rattle.bx_editor.specs.Editor.{after_help, after_quit, cleared, next_base, with_base, with_typing};
 ghost use Rattle.bx_editor.specs.Before.{before};
+ghost use Rattle.bx_editor.specs.declared.questions.answers.Prompt.{Prompt};
 ghost use Rattle.bx_editor.specs.Answering.{answer_of, without_line};
-ghost use Rattle.bx_editor.specs.InputLines.{prompt_line};
+ghost use Rattle.bx_editor.specs.InputLines.{takes_line};
 ghost use Rattle.bx_editor.specs.Keys.{after_any, after_key, after_pressing, after_user, answered_name, answered_overwrite, answered_question};
 ghost use Rattle.bx_editor.specs.Keys.{changes_text, is_edit_or_move, may_refuse, refuses_replacing, saving_of};
 ghost use Rattle.bx_editor.specs.Functions.{has_size, move_of};
@@ -218,6 +219,7 @@ impl<D: BidiData + Drop> Editor<D> {
 
     /// Applies a key outside a search and a question.
     pub(crate) fn press(&mut self, key: Key, fault: Option<StoreFault>) -> Result<(), OutOfMemory>
+        requires prompt { self.old.editor.prompt ≡ Prompt.Off }
         ensures ok { OnOk result (self.new.editor
             ≡ after_pressing (D.data self.old.tables) fault (before self.old.editor) (cleared self.old.editor) key) }
         ensures tables { self.new.tables ≡ self.old.tables }
@@ -283,7 +285,7 @@ impl<D: BidiData + Drop> Editor<D> {
 
     /// Applies a key in a question with an input line.
     fn press_in_question(&mut self, key: Key, fault: Option<StoreFault>) -> Result<(), OutOfMemory>
-        requires line { IfSome (prompt_line self.old.editor self.old.editor.prompt) (λ line. line ≡ self.old.editor.answer) }
+        requires line { takes_line self.old.editor.prompt ≡ true }
         ensures ok { OnOk result (self.new.editor
             ≡ answered_question (D.data self.old.tables) fault (before self.old.editor) (cleared self.old.editor) key (answer_of key)) }
         ensures tables { self.new.tables ≡ self.old.tables }

@@ -4,13 +4,13 @@ ghost use Rattle.bx_common.specs.Characters.{is_side};
 ghost use Rattle.bx_view.specs.Position.{IsPosition};
 ghost use Rattle.bx_editor.specs.Editor.{rows, text_height};
 ghost use Rattle.bx_editor.specs.Picture.{StandsOnItsCell, picture, top_behind};
-ghost use Rattle.bx_editor.specs.Status.{input_column, is_rtl, status_columns};
+ghost use Rattle.bx_editor.specs.Status.{input_column, status_columns};
 
 use crate::editor::Editor;
 use crate::scrolling::Scroll;
 use crate::status::status_line;
 use bx_common::OutOfMemory;
-use bx_document::{Shown, StatusRow};
+use bx_document::StatusRow;
 use bx_grid::{Cell, Grid, Picture};
 use bx_ucd::BidiData;
 use bx_view::Position;
@@ -33,13 +33,12 @@ impl<D: BidiData + Drop> Editor<D> {
         &mut self,
         alloc: Global,
         page: &mut Grid,
-        shown: Shown,
+        position: Position,
     ) -> Result<Option<u16>, OutOfMemory>
         requires height { page.old.height ≡ self.old.editor.height }
         requires width { page.old.width ≡ self.old.editor.width }
         requires position { IsPosition (D.data self.old.tables) self.old.editor.width self.old.editor.content.text
-            (rows (D.data self.old.tables) self.old.editor) self.old.editor.place shown.position }
-        requires direction { shown.is_rtl ≡ is_rtl (D.data self.old.tables) self.old.editor }
+            (rows (D.data self.old.tables) self.old.editor) self.old.editor.place position }
         ensures same { self.new ≡ self.old }
         ensures status { OnOk result (page.new ≡ record page.old {
           columns = take (text_height self.old.editor.height * self.old.editor.width) page.old.columns
@@ -56,11 +55,12 @@ impl<D: BidiData + Drop> Editor<D> {
         let Position {
             paragraph,
             unit,
+            is_rtl,
             ..
-        } = shown.position;
+        } = position;
         let mut line = status_line(alloc, self.past.changed, paragraph, unit)?;
         self.write_message(&mut line)?;
-        let StatusRow { row, column } = self.draw_status(line, shown.is_rtl)?;
+        let StatusRow { row, column } = self.draw_status(line, is_rtl)?;
         page.put_row(height - 1, &row)?;
         Ok(column)
     }
@@ -96,7 +96,7 @@ impl<D: BidiData + Drop> Editor<D> {
         let shown = self
             .document
             .show(&mut page, top, self.cursor.place, count, region)?;
-        let cursor = match self.put_status(alloc, &mut page, shown)? {
+        let cursor = match self.put_status(alloc, &mut page, shown.position)? {
             Some(column) => Cell {
                 line: height,
                 column,

@@ -23,7 +23,7 @@ pub(crate) fn reading_of(purpose: SearchPurpose) -> Reading
 /// The line into which a character goes: empty if it was just asked for, so that typing replaces the latest one.
 pub(crate) fn kept(search_state: SearchState, line: &str, cursor: usize) -> (&str, usize)
     requires few { length (chars line.now) ≤ 64 }
-    ensures kept { record { text = result.0.now; cursor = result.1 } ≡ kept search_state (line_with line.now cursor) }
+    ensures kept { line_with result.0.now result.1 ≡ kept search_state (line_with line.now cursor) }
     ensures few { length (chars result.0.now) ≤ 64 }
 {
     match search_state {

@@ -1,6 +1,7 @@
 //! The question for the replacement, which replaces matches.
 ghost use Rattle.std.specs.Prelude.{◌≡◌, ◌≤◌, ◌↔◌, [], true, chars, length, IfSome, IsNone, IsSome, IsUtf8, OnErr, OnOk};
 ghost use Rattle.bx_view.specs.Places.{IsTextPlace};
+ghost use Rattle.bx_editor.specs.declared.questions.answers.Prompt.{Prompt};
 ghost use Rattle.bx_editor.specs.Editor.{cleared};
 ghost use Rattle.bx_editor.specs.Origin.{asks_replacement, is_queried};
 ghost use Rattle.bx_editor.specs.Replacing.{after_asking_replacement, after_erasing_replacement, after_showing, replacement_typed, with_replacement};
@@ -63,6 +64,7 @@ impl<D: BidiData + Drop> Editor<D> {
         requires asked { asks_replacement self.old.editor.search_state ≡ true }
         requires few { length (chars line.text) ≤ 64 }
         requires place { IsTextPlace (D.data self.old.tables) line.text line.cursor }
+        requires prompt { self.old.editor.prompt ≡ Prompt.Off }
         ensures { self.new ≡ record self.old { editor = with_replacement (cleared self.old.editor) line } }
     {
         self.replacement = line.text;
@@ -75,6 +77,7 @@ impl<D: BidiData + Drop> Editor<D> {
     /// the message.
     pub(crate) fn type_replacement(&mut self, c: char) -> Result<(), OutOfMemory>
         requires asked { asks_replacement self.old.editor.search_state ≡ true }
+        requires prompt { self.old.editor.prompt ≡ Prompt.Off }
         ensures ok { OnOk result (self.new ≡ record self.old {
           editor = replacement_typed (D.data self.old.tables) (cleared self.old.editor) c;
         }) }
@@ -95,6 +98,7 @@ impl<D: BidiData + Drop> Editor<D> {
     /// Removes what an erasure removes from the replacement. Where that is nothing, only clears the message.
     pub(crate) fn erase_in_replacement(&mut self, how: Erasure) -> Result<(), OutOfMemory>
         requires asked { asks_replacement self.old.editor.search_state ≡ true }
+        requires prompt { self.old.editor.prompt ≡ Prompt.Off }
         ensures ok { OnOk result (self.new ≡ record self.old {
           editor = after_erasing_replacement (D.data self.old.tables) (cleared self.old.editor) how;
         }) }
@@ -116,6 +120,7 @@ impl<D: BidiData + Drop> Editor<D> {
     /// Moves the cursor in the replacement.
     pub(crate) fn move_in_replacement(&mut self, m: Move) -> Result<(), OutOfMemory>
         requires asked { asks_replacement self.old.editor.search_state ≡ true }
+        requires prompt { self.old.editor.prompt ≡ Prompt.Off }
         ensures ok { OnOk result (self.new ≡ record self.old {
           editor = after_moving_in (D.data self.old.tables) (cleared self.old.editor) self.old.editor.replacement m;
         }) }

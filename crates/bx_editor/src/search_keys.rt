@@ -1,6 +1,7 @@
 //! The keys of a search: while the query is asked for, while the replacement is, and while a match is shown.
 ghost use Rattle.std.specs.Prelude.{◌≡◌, true, OnErr, OnOk};
 ghost use Rattle.bx_view.specs.Places.{IsTextPlace};
+ghost use Rattle.bx_editor.specs.declared.questions.answers.Prompt.{Prompt};
 ghost use Rattle.bx_editor.specs.Answering.{answer_of, without_line};
 ghost use Rattle.bx_editor.specs.Before.{before};
 ghost use Rattle.bx_editor.specs.Editor.{cleared, with_typing};
@@ -72,6 +73,7 @@ impl<D: BidiData + Drop> Editor<D> {
     fn seek_letter(&mut self, c: char) -> Result<(), OutOfMemory>
         requires origin { IsTextPlace (D.data self.old.tables) self.old.editor.content.text self.old.editor.origin }
         requires queried { is_queried self.old.editor.search_state ≡ true }
+        requires prompt { self.old.editor.prompt ≡ Prompt.Off }
         ensures ok { OnOk result (self.new ≡ record self.old {
           editor = after_sought_letter (D.data self.old.tables) (cleared self.old.editor) c;
         }) }
@@ -87,6 +89,7 @@ impl<D: BidiData + Drop> Editor<D> {
     fn answer(&mut self, c: char) -> Result<(), OutOfMemory>
         requires origin { IsTextPlace (D.data self.old.tables) self.old.editor.content.text self.old.editor.origin }
         requires queried { is_queried self.old.editor.search_state ≡ true }
+        requires prompt { self.old.editor.prompt ≡ Prompt.Off }
         ensures ok { OnOk result (self.new ≡ record self.old {
           editor = after_taking (D.data self.old.tables) self.old.editor.typing c (cleared self.old.editor)
               (after_sought_letter (D.data self.old.tables) (cleared self.old.editor) c);
@@ -111,6 +114,7 @@ impl<D: BidiData + Drop> Editor<D> {
     ) -> Result<(), OutOfMemory>
         requires origin { IsTextPlace (D.data self.old.tables) self.old.editor.content.text self.old.editor.origin }
         requires queried { is_queried self.old.editor.search_state ≡ true }
+        requires prompt { self.old.editor.prompt ≡ Prompt.Off }
         ensures ok { OnOk result (self.new.editor
             ≡ answered (D.data self.old.tables) fault (before self.old.editor) (cleared self.old.editor) key (answer_of key)) }
         ensures tables { self.new.tables ≡ self.old.tables }
@@ -137,6 +141,7 @@ impl<D: BidiData + Drop> Editor<D> {
     /// Applies a character that is typed while the replacement is asked for.
     fn take_letter(&mut self, c: char) -> Result<(), OutOfMemory>
         requires asked { asks_replacement self.old.editor.search_state ≡ true }
+        requires prompt { self.old.editor.prompt ≡ Prompt.Off }
         ensures ok { OnOk result (self.new ≡ record self.old {
           editor = after_replacement_letter (D.data self.old.tables) (cleared self.old.editor) c;
         }) }
@@ -152,6 +157,7 @@ impl<D: BidiData + Drop> Editor<D> {
     /// Applies a character that is typed or pasted while the replacement is asked for.
     fn answer_replacement(&mut self, c: char) -> Result<(), OutOfMemory>
         requires asked { asks_replacement self.old.editor.search_state ≡ true }
+        requires prompt { self.old.editor.prompt ≡ Prompt.Off }
         ensures ok { OnOk result (self.new ≡ record self.old {
           editor = after_taking (D.data self.old.tables) self.old.editor.typing c (cleared self.old.editor)
               (after_replacement_letter (D.data self.old.tables) (cleared self.old.editor) c);
@@ -176,6 +182,7 @@ impl<D: BidiData + Drop> Editor<D> {
     ) -> Result<(), OutOfMemory>
         requires origin { IsTextPlace (D.data self.old.tables) self.old.editor.content.text self.old.editor.origin }
         requires asked { asks_replacement self.old.editor.search_state ≡ true }
+        requires prompt { self.old.editor.prompt ≡ Prompt.Off }
         ensures ok { OnOk result (self.new.editor
             ≡ answered_replacement (D.data self.old.tables) fault (before self.old.editor) (cleared self.old.editor) key (answer_of key)) }
         ensures tables { self.new.tables ≡ self.old.tables }
@@ -223,6 +230,7 @@ impl<D: BidiData + Drop> Editor<D> {
         fault: Option<StoreFault>,
     ) -> Result<(), OutOfMemory>
         requires shown { self.old.editor.search_state ≡ SearchState.Replacing }
+        requires prompt { self.old.editor.prompt ≡ Prompt.Off }
         ensures ok { OnOk result (self.new.editor
             ≡ answered_match (D.data self.old.tables) fault (before self.old.editor) (cleared self.old.editor) key (without_line (answer_of key))) }
         ensures tables { self.new.tables ≡ self.old.tables }
@@ -245,6 +253,7 @@ impl<D: BidiData + Drop> Editor<D> {
 
     /// Ends the search, and applies a key with its usual effect. A refused key leaves the search.
     fn press_behind(&mut self, key: Key, fault: Option<StoreFault>) -> Result<(), OutOfMemory>
+        requires prompt { self.old.editor.prompt ≡ Prompt.Off }
         ensures ok { OnOk result (self.new.editor
             ≡ after_pressing (D.data self.old.tables) fault (before self.old.editor) (without_search (cleared self.old.editor)) key) }
         ensures tables { self.new.tables ≡ self.old.tables }

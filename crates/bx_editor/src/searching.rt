@@ -2,6 +2,7 @@
 //! which key makes which call.
 ghost use Rattle.std.specs.Prelude.{◌≡◌, ◌≤◌, ◌==◌, not, true, chars, length, IfOk, IfSome, OnErr, OnOk};
 ghost use Rattle.bx_view.specs.Places.{IsTextPlace};
+ghost use Rattle.bx_editor.specs.declared.questions.answers.Prompt.{Prompt};
 ghost use Rattle.bx_editor.specs.Editor.{cleared};
 ghost use Rattle.bx_editor.specs.Origin.{is_queried};
 ghost use Rattle.bx_editor.specs.Search.{after_beginning, after_erasing_query, after_find, after_find_back, after_find_next, after_find_previous, after_giving_up, after_letter};
@@ -22,6 +23,7 @@ use bx_view::{Logical, Move};
 impl<D: BidiData + Drop> Editor<D> {
     /// Begins a search at the place, with the query of the latest one and the cursor at its end. An old selection is taken off.
     pub(crate) fn begin_search(&mut self, purpose: SearchPurpose)
+        requires prompt { self.old.editor.prompt ≡ Prompt.Off }
         ensures { self.new ≡ record self.old { editor = after_beginning purpose (unselected (cleared self.old.editor)) } }
     {
         self.unselect();
@@ -76,6 +78,7 @@ impl<D: BidiData + Drop> Editor<D> {
         requires origin { IsTextPlace (D.data self.old.tables) self.old.editor.content.text self.old.editor.origin }
         requires few { length (chars line.text) ≤ 64 }
         requires place { IsTextPlace (D.data self.old.tables) line.text line.cursor }
+        requires prompt { self.old.editor.prompt ≡ Prompt.Off }
         ensures ok { OnOk result (self.new ≡ record self.old {
           editor = search_on (D.data self.old.tables) grows (with_query (cleared self.old.editor) line);
         }) }
@@ -104,6 +107,7 @@ impl<D: BidiData + Drop> Editor<D> {
     pub(crate) fn type_letter(&mut self, c: char) -> Result<(), OutOfMemory>
         requires origin { IsTextPlace (D.data self.old.tables) self.old.editor.content.text self.old.editor.origin }
         requires queried { is_queried self.old.editor.search_state ≡ true }
+        requires prompt { self.old.editor.prompt ≡ Prompt.Off }
         ensures ok { OnOk result (self.new ≡ record self.old {
           editor = after_letter (D.data self.old.tables) (cleared self.old.editor) c;
         }) }
@@ -125,6 +129,7 @@ impl<D: BidiData + Drop> Editor<D> {
     pub(crate) fn erase_in_query(&mut self, how: Erasure) -> Result<(), OutOfMemory>
         requires origin { IsTextPlace (D.data self.old.tables) self.old.editor.content.text self.old.editor.origin }
         requires queried { is_queried self.old.editor.search_state ≡ true }
+        requires prompt { self.old.editor.prompt ≡ Prompt.Off }
         ensures ok { OnOk result (self.new ≡ record self.old {
           editor = after_erasing_query (D.data self.old.tables) (cleared self.old.editor) how;
         }) }
@@ -145,6 +150,7 @@ impl<D: BidiData + Drop> Editor<D> {
     /// Moves the cursor in the query.
     pub(crate) fn move_in_query(&mut self, m: Move) -> Result<(), OutOfMemory>
         requires queried { is_queried self.old.editor.search_state ≡ true }
+        requires prompt { self.old.editor.prompt ≡ Prompt.Off }
         ensures ok { OnOk result (self.new ≡ record self.old {
           editor = after_moving_in (D.data self.old.tables) (cleared self.old.editor) self.old.editor.query m;
         }) }
@@ -219,6 +225,7 @@ impl<D: BidiData + Drop> Editor<D> {
 
     /// Goes to the next match, and no search is on. If the query has no letters, begins a search. An old selection is taken off.
     pub(crate) fn go_to_next(&mut self) -> Result<(), OutOfMemory>
+        requires prompt { self.old.editor.prompt ≡ Prompt.Off }
         ensures ok { OnOk result (self.new ≡ record self.old {
           editor = after_find_next (D.data self.old.tables) (unselected (cleared self.old.editor));
         }) }
@@ -237,6 +244,7 @@ impl<D: BidiData + Drop> Editor<D> {
 
     /// Goes to the previous match, and no search is on. If the query has no letters, begins a search. An old selection is taken off.
     pub(crate) fn go_to_previous(&mut self) -> Result<(), OutOfMemory>
+        requires prompt { self.old.editor.prompt ≡ Prompt.Off }
         ensures ok { OnOk result (self.new ≡ record self.old {
           editor = after_find_previous (D.data self.old.tables) (unselected (cleared self.old.editor));
         }) }

@@ -104,7 +104,7 @@ impl<D: BidiData + Drop> Editor<D> {
 
     /// The query or the replacement, if one is asked for.
     fn search_line(&self) -> Option<&str>
-        ensures { option_map (λ line. line.now) result ≡ search_line self.now.editor self.now.editor.search_state }
+        ensures { option_map (λ line. line.now) result ≡ search_line self.now.editor.search_state self.now.editor.query self.now.editor.replacement }
     {
         match self.cursor.search_state {
             SearchState::Begun | SearchState::Typed => Some(self.query.as_str()),

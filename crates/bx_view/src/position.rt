@@ -12,7 +12,7 @@ use crate::view::View;
 use bx_common::OutOfMemory;
 use bx_ucd::BidiData;
 
-/// The position of a place. All fields count from 1.
+/// The position of a place. Its numbers count from 1.
 #[derive(Clone, Copy)]
 pub struct Position {
     /// The column of the place's cell.
@@ -21,6 +21,8 @@ pub struct Position {
     pub paragraph: usize,
     /// The number of the place's unit in the paragraph.
     pub unit: usize,
+    /// Whether the paragraph is read from right to left.
+    pub is_rtl: bool,
 }
 
 impl View {
@@ -44,6 +46,7 @@ impl View {
             column: standing.column,
             paragraph: at.paragraph + 1,
             unit: row.paragraph.units_ahead(at.row) + standing.units_before + 1,
+            is_rtl: row.paragraph.level() % 2 == 1,
         })
     }
 
