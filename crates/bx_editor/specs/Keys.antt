@@ -360,9 +360,9 @@ saving_by e prompts.Overwrite key (Letter c) = if overwrites e c then Some (savi
 saving_by e prompts.Overwrite key answer = None
 saving_by e prompt key answer = if is_save key && can_save e then Some (own_saving e e.name) else None
 
--- where a key stores the text, if it does and no paste is under way
+-- where a key stores the text, if it does; while a paste is under way only a Save, which ends it first
 abbrev pub saving_of : Editor → Key → Option Saving
-saving_of e key = if is_some e.pasted then None else saving_by e e.prompt key (answer_of key)
+saving_of e key = if is_some e.pasted && not (is_save key) then None else saving_by e e.prompt key (answer_of key)
 
 -- a key after which the screen's content counts as unknown, so that all of it is painted
 abbrev pub asks_for_whole : Key → Bool

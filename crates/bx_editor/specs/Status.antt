@@ -6,6 +6,7 @@ use Rattle.bx_common.specs.declared.base.Base.TheVariants.{Auto, Ltr, Rtl}
 use Rattle.bx_keys.specs.declared.notice.Notice as told
 use Rattle.bx_keys.specs.declared.notice.Notice.TheVariants as notices
 use Rattle.bx_store.specs.declared.cause.SaveCause.{SaveCause}
+use Rattle.bx_store.specs.declared.cause.SaveCause.TheVariants.{Changed, Exists}
 use Rattle.bx_store.specs.Faults.{cause_text}
 pub use Rattle.bx_view.specs.Numbers.{paragraph_number, unit_number}
 use Rattle.bx_view.specs.Moves.{step_logical}
@@ -43,9 +44,12 @@ told_at_place d e =
     else
     told_text d (chars (slice_range e.content.text e.place (step_logical (rows d e) Forward e.place))) (place_level d e.base e.content.text e.place)
 
--- a failed save: the message has a colon and the cause, if the store tells one
+-- a failed save: the message has a colon and the cause, if the store tells one; the two causes after which the user decides have words
+-- of their own
 abbrev pub failed_text : Option SaveCause → List ℕ
 failed_text None = codes "save failed"
+failed_text (Some Changed) = codes "file changed on disk"
+failed_text (Some Exists) = codes "not saved, file exists: ^O again"
 failed_text (Some cause) = codes "save failed: " ++ cause_text cause
 
 -- the words of a notice of the host

@@ -143,7 +143,7 @@ impl<D: BidiData + Drop> Editor<D> {
         ensures tables { self.new.tables ≡ self.old.tables }
         ensures err { OnErr result (self.new ≡ self.old) }
         ensures edits { OnErr result (may_refuse self.old.editor key ≡ true) }
-        ensures stores { is_some (saving_of self.old.editor key) ≡ true → IsOk result }
+        ensures stores { is_some (saving_of self.old.editor key) ≡ true → self.old.editor.pasted ≡ None → IsOk result }
     {
         match key {
             Key::Size(height, width) => self.resize(height, width),

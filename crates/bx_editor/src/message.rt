@@ -75,6 +75,7 @@ fn failed_text(cause: Option<SaveCause>) -> &'static str
         Some(SaveCause::CutOff) => {
             "save failed: file cut off, its whole text is in a .bx file beside it"
         }
+        Some(SaveCause::Exists) => "not saved, file exists: ^O again",
         Some(SaveCause::Other) => "save failed: disk error",
     }
 }

@@ -1,7 +1,7 @@
 //! What a replay does in place of keys of a journal that save or quit, and its end. Each of the calls wants a paste to be ended
 //! before ([`Editor::end_paste`]).
 ghost use Rattle.std.specs.Prelude.{◌≡◌, None};
-ghost use Rattle.bx_editor.specs.Replay.{after_passed_quit, after_passed_save, at_replay_end};
+ghost use Rattle.bx_editor.specs.Replay.{after_passed_answer, after_passed_quit, after_passed_save, at_replay_end};
 
 use crate::editor::Editor;
 use crate::questions::Prompt;
@@ -33,6 +33,19 @@ impl<D: BidiData + Drop> Editor<D> {
         self.cursor.search_state = SearchState::Off;
         self.prompt = Prompt::Off;
         self.past.stored = None;
+    }
+
+    /// Passes over an answer of a journal that saved under a name: it ends the question and what any key ends, and becomes the name where
+    /// saves go to no file yet. Allocates nothing.
+    pub fn pass_answer(&mut self)
+        requires no_paste { self.old.editor.pasted ≡ None }
+        ensures { self.new ≡ record self.old { editor = after_passed_answer self.old.editor } }
+    {
+        self.leave_question();
+        if self.name.is_some() && !self.home {
+            self.take_name();
+        }
+        self.pass_save();
     }
 
     /// Ends a replay: no search is on, nothing is asked, the next edit begins an undo group, and the text is the stored one unless

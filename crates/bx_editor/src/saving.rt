@@ -1,8 +1,8 @@
 //! Saving: where a key stores the text, and what a save leaves.
-ghost use Rattle.std.specs.Prelude.{◌≡◌, option_map, string_bytes};
+ghost use Rattle.std.specs.Prelude.{◌≡◌, ◌&&◌, not, None, Some, length, option_map};
 ghost use Rattle.bx_editor.specs.Editor.{cleared};
-ghost use Rattle.bx_editor.specs.Keys.{ends_name, is_typed, overwrites, saving_of};
-ghost use Rattle.bx_editor.specs.Saving.{after_naming, after_save, after_saving, asked_over, asking_name, asking_over, can_save, confirms, is_empty_name};
+ghost use Rattle.bx_editor.specs.Keys.{ends_name, is_save, is_typed, overwrites, saving_of};
+ghost use Rattle.bx_editor.specs.Saving.{after_naming, after_save, after_saving, asking_over, can_save, confirms};
 ghost use Rattle.bx_editor.specs.Saving.{is_name, is_nameless, own_saving, saving_over, saving_under, takes_name, with_answered_name};
 ghost use Rattle.bx_editor.specs.SavingStates.{saving_state};
 
@@ -43,7 +43,9 @@ fn is_typed(typing: Typing) -> bool
 }
 
 /// Whether the key is Save.
-fn is_save(key: Key) -> bool {
+fn is_save(key: Key) -> bool
+    ensures { result ≡ is_save key }
+{
     matches!(key, Key::Save)
 }
 
@@ -86,7 +88,9 @@ impl<D: BidiData + Drop> Editor<D> {
     }
 
     /// Whether the answer is the session's name, and saves go to it.
-    fn answers_own_name(&self) -> bool {
+    fn answers_own_name(&self) -> bool
+        ensures { result ≡ self.now.editor.home && is_name self.now.editor.name self.now.editor.answer && not self.now.editor.read_only }
+    {
         match &self.name {
             Some(name) => self.home && !self.read_only && name.as_str() == self.answer.as_str(),
             None => false,
@@ -117,12 +121,12 @@ impl<D: BidiData + Drop> Editor<D> {
         confirms(c) && !is_paste(self.typing) && self.can_save()
     }
 
-    /// Where a key stores the text, if it does, where no paste is under way: the caller stores it before it applies the key. Allocates
-    /// nothing.
+    /// Where a key stores the text, if it does: the caller stores it before it applies the key, and before that ends a paste, which only
+    /// a Save finds under way. Allocates nothing.
     pub fn saving_of(&self, key: Key) -> Option<Saving<'_>>
         ensures { option_map saving_state result ≡ saving_of self.now.editor key }
     {
-        if self.is_pasting() {
+        if self.is_pasting() && !is_save(key) {
             return None;
         }
         match (self.prompt, answer_of(key)) {
@@ -136,7 +140,9 @@ impl<D: BidiData + Drop> Editor<D> {
     }
 
     /// Notes that the text was stored: undoing to it counts as no change, and later saves go where this one went.
-    fn note_stored(&mut self) {
+    fn note_stored(&mut self)
+        ensures { self.new ≡ record self.old { editor = after_save (cleared self.old.editor) None } }
+    {
         self.past.stored = Some(self.document.past_len());
         self.past.changed = false;
         self.home = true;
@@ -144,7 +150,9 @@ impl<D: BidiData + Drop> Editor<D> {
     }
 
     /// Notes that a save failed, and asks whether to overwrite a file that another program changed.
-    fn note_fault(&mut self, fault: StoreFault) {
+    fn note_fault(&mut self, fault: StoreFault)
+        ensures { self.new ≡ record self.old { editor = after_save (cleared self.old.editor) (Some fault) } }
+    {
         if let Some(SaveCause::Changed) = fault.cause {
             self.prompt = Prompt::Overwrite;
         }
@@ -180,7 +188,8 @@ impl<D: BidiData + Drop> Editor<D> {
     }
 
     /// Makes the answer the name.
-    fn take_name(&mut self)
+    pub(crate) fn take_name(&mut self)
+        requires asked { takes_line self.old.editor.prompt ≡ false }
         ensures { self.new ≡ record self.old { editor = with_answered_name self.old.editor } }
     {
         let empty = String::new(*self.answer.allocator());

@@ -1,5 +1,5 @@
 -- The replay of a journal, and what comes before the keys of a run. `d` is Unicode's data, `s` the session before, `b` a byte of input.
-use Rattle.std.specs.Prelude.{ℕ, true, List, [], ◌∷◌, Option, Some, None}
+use Rattle.std.specs.Prelude.{ℕ, true, List, [], ◌∷◌, is_some, Option, Some, None, if◌then◌else◌}
 use Rattle.bx_keys.specs.declared.key.Key.{Key}
 use Rattle.bx_keys.specs.declared.key.Key.TheVariants.{Quit, Save}
 use Rattle.bx_ucd.specs.Data.{Data}
@@ -11,20 +11,26 @@ use Rattle.bx_editor.specs.Editor.{Editor, cleared, rows, with_place, with_top}
 use Rattle.bx_editor.specs.Scrolling.{moved_top, scroll_of}
 use Rattle.bx_editor.specs.declared.search_state.SearchState.{SearchState}
 use Rattle.bx_editor.specs.declared.search_state.SearchState.TheVariants.{Off}
-use Rattle.bx_editor.specs.Keys.{after_key}
+use Rattle.bx_editor.specs.Keys.{after_key, saving_of}
 use Rattle.bx_editor.specs.Putting.{paste_ended}
-use Rattle.bx_editor.specs.Replay.{after_passed_quit, after_passed_save}
+use Rattle.bx_editor.specs.Replay.{after_passed_answer, after_passed_quit, after_passed_save}
 use Rattle.bx_editor.specs.Replay as replay
 use Rattle.bx_editor.specs.Picture.{scrolled}
 use Rattle.bx_session.specs.Session.{Session, after_spending, key_of_byte, session_after_key, with_painting_owed}
 
--- The effect of a key in a replay. A Save and a Quit end what any key ends, first a paste, and a Save a search and a question too; a
--- Quit gives up a search or a question. Neither stores a text, nor ends the session. `prompt` and `search_state` are what stands once a paste has
--- ended.
+-- a key of a journal that stored the text, in this question: it is a name that is answered, or a save
+abbrev pub after_passed : Prompt → Key → Editor → Editor
+after_passed prompts.File Save e = after_passed_save e
+after_passed prompts.File key e = after_passed_answer e
+after_passed prompt key e = after_passed_save e
+
+-- The effect of a key in a replay. A key that stored the text and a Quit end what any key ends, first a paste, and the former a search
+-- and a question too; a Quit gives up a search or a question. Neither stores a text, nor ends the session. `prompt` and `search_state` are
+-- what stands once a paste has ended.
 abbrev pub after_replayed : Data → Prompt → SearchState → Editor → Key → Editor
-after_replayed d prompt search_state e Save = after_passed_save (paste_ended d e)
 after_replayed d prompts.Off Off e Quit = after_passed_quit (paste_ended d e)
-after_replayed d prompt search_state e key = after_key d None e key
+after_replayed d prompt search_state e key =
+    if is_some (saving_of e key) then after_passed prompt key (paste_ended d e) else after_key d None e key
 
 -- the same, in the editor's own state of question and search
 abbrev pub replayed_on : Data → Editor → Key → Editor
@@ -46,9 +52,11 @@ after_all_replayed d e (key ∷ keys) = after_all_replayed d (scrolled_on d (scr
 
 -- the session after a key of a journal, in these states of question and search
 abbrev pub session_after_replayed : Data → Prompt → SearchState → Session → Key → Session
-session_after_replayed d prompt search_state s Save = record s { editor = after_passed_save (paste_ended d s.editor) }
 session_after_replayed d prompts.Off Off s Quit = record s { editor = after_passed_quit (paste_ended d s.editor) }
-session_after_replayed d prompt search_state s key = session_after_key d None s key
+session_after_replayed d prompt search_state s key =
+    if is_some (saving_of s.editor key)
+    then record s { editor = after_passed prompt key (paste_ended d s.editor) }
+    else session_after_key d None s key
 
 abbrev pub session_replayed_on : Data → Session → Key → Session
 session_replayed_on d s key = let over = paste_ended d s.editor in session_after_replayed d over.prompt over.search_state s key

@@ -1,6 +1,6 @@
 -- The session's state, and its changes: an editor, the input that waits for more, and the bytes queued for the terminal. `d` is
 -- Unicode's data, `s` the session before, `b` a byte of input.
-use Rattle.std.specs.Prelude.{ℕ, Bool, true, false, not, ◌||◌, List, [], ◌++◌, drop, Option, Some, None, if◌then◌else◌, ◌≡◌, option_map}
+use Rattle.std.specs.Prelude.{ℕ, Bool, true, false, not, ◌||◌, List, [], ◌++◌, drop, Option, Some, None, if◌then◌else◌, ◌≡◌, is_some, option_map}
 use Rattle.bx_common.specs.declared.base.Base.{Base}
 use Rattle.bx_keys.specs.declared.key.Key.{Key}
 use Rattle.bx_keys.specs.Keys.{head_of, key_after, rest_after}
@@ -14,7 +14,7 @@ use Rattle.bx_ucd.specs.Data.{Data}
 use Rattle.bx_editor.specs.Region.{clip_of}
 use Rattle.bx_editor.specs.Editor.{Editor, at_start, with_size}
 use Rattle.bx_editor.specs.Editor as editors
-use Rattle.bx_editor.specs.Keys.{after_key, asks_for_whole, needs_no_painting, is_save, may_refuse}
+use Rattle.bx_editor.specs.Keys.{after_key, asks_for_whole, needs_no_painting, is_save, may_refuse, saving_of}
 use Rattle.bx_editor.specs.declared.scrolling.Scroll.{Scroll}
 use Rattle.bx_editor.specs.declared.scrolling.Scroll.TheVariants.{Least}
 use Rattle.bx_editor.specs.Picture.{picture, scrolled_by}
@@ -112,7 +112,7 @@ after_spending s b = if s.editor.ended then s else record s { rest = head_of (re
 abbrev pub known_after : Option PictureState → Key → Editor → Option PictureState
 known_after known key e = if asks_for_whole key || e.ended then None else known
 
--- a key is applied, and not yet painted; `fault`: why a Save failed, None if it succeeded
+-- a key is applied, and not yet painted; `fault`: why the save failed that it makes, None if it succeeded
 abbrev pub session_after_key : Data → Option StoreFault → Session → Key → Session
 session_after_key d fault s key =
     let e = after_key d fault s.editor key in
@@ -222,15 +222,20 @@ abbrev pub is_save_key : Option Key → Bool
 is_save_key None = false
 is_save_key (Some key) = is_save key
 
--- the byte completes a Save
-abbrev pub is_save_byte : Session → ℕ → Bool
-is_save_byte s b = is_save_key (key_of_byte s b)
+-- there is a key, and this editor stores the text by it: a Save, or an answer
+abbrev pub stores_by : Editor → Option Key → Bool
+stores_by e None = false
+stores_by e (Some key) = is_some (saving_of e key)
 
--- the text that a Save stores: it first ends a paste
+-- the byte completes such a key
+abbrev pub is_save_byte : Session → ℕ → Bool
+is_save_byte s b = stores_by s.editor (key_of_byte s b)
+
+-- the text that it stores: a Save first ends a paste
 abbrev pub text_to_save : Data → Editor → List ℕ
 text_to_save d e = (paste_ended d e).content.text
 
--- the store after a byte: only a Save that is applied changes it
+-- the store after a byte: only a key that stores the text, and is applied, changes it
 abbrev pub StoreAfter : Bool → Option StoreFault → List ℕ → StoreState → StoreState → Type 0
 StoreAfter true fault text old new = SaveEnds fault text old new
 StoreAfter false fault text old new = new ≡ old

@@ -1,12 +1,12 @@
 //! Feeding a session: input bytes, and the window's size.
 
-ghost use Rattle.std.specs.Prelude.{◌≡◌, ◌&&◌, ◌||◌, Option, None, true, false, IfOk, IfSome, IsOk, OnErr, OnOk};
+ghost use Rattle.std.specs.Prelude.{◌≡◌, ◌&&◌, ◌||◌, Option, None, Some, true, false, is_ok, is_some, IfOk, IfSome, IsOk, OnErr, OnOk};
 ghost use Rattle.bx_grid.specs.Picture.{is_size};
 ghost use Rattle.bx_keys.specs.Decoder.{HasSides};
 ghost use Rattle.bx_editor.specs.Keys as keys;
 ghost use Rattle.bx_store.specs.declared.store.StoreFault.{StoreFault};
 ghost use Rattle.bx_session.specs.Painting.{FeedAppends, FeedPaints, ToldPaints};
-ghost use Rattle.bx_session.specs.Session.{SaveEnds, StoreAfter, after_spending, is_painted, is_save_byte, key_of_byte, may_refuse_key, needs_painting, scroll_behind, session_after_key, store_state, text_to_save, unpainted_after_byte, unpainted_after_told};
+ghost use Rattle.bx_session.specs.Session.{StoreAfter, after_spending, is_painted, is_save_byte, key_of_byte, may_refuse_key, needs_painting, scroll_behind, session_after_key, store_state, stores_by, text_to_save, unpainted_after_byte, unpainted_after_told};
 ghost use Rattle.bx_session.specs.Feeding.{Feeds, ToldBy, is_applied, is_idle};
 
 use crate::saving::save_pieces;
@@ -66,7 +66,7 @@ impl<D: BidiData + Drop> Session<D> {
         self.decoder.feed(byte)
     }
 
-    /// Applies a key, without painting. `fault` belongs to a Save, for which the text was stored: why that failed, or None.
+    /// Applies a key, without painting. `fault` belongs to a key for which the text was stored: why that failed, or None.
     ///
     /// Errors: `Edit` if memory runs out, only for a key that edits, moves, copies, finds or ends a paste; nothing has changed.
     pub(crate) fn press(&mut self, key: Key, fault: Option<StoreFault>) -> Result<(), Refused>
@@ -87,24 +87,40 @@ impl<D: BidiData + Drop> Session<D> {
         Ok(())
     }
 
-    /// Ends a paste, stores the text, and applies Save. Paints nothing.
+    /// Stores the text, if this key does that where no paste is under way. Returns why that failed, if it did.
+    fn store_for<S: Store>(&self, key: Key, store: &mut S) -> Option<StoreFault>
+        ensures stored { StoreAfter (is_some (keys.saving_of self.now.session.editor key)) result self.now.session.editor.content.text
+            (store_state S.contents S.faults store.old) (store_state S.contents S.faults store.new) }
+        ensures none { is_some (keys.saving_of self.now.session.editor key) ≡ false → result ≡ None }
+        ensures untouched { is_some (keys.saving_of self.now.session.editor key) ≡ false → store.new ≡ store.old }
+    {
+        match self.editor.saving_of(key) {
+            Some(saving) => save_pieces(saving, self.editor.pieces(), store).err(),
+            None => None,
+        }
+    }
+
+    /// Applies a key, and before that stores the text, if the key does that; a Save first ends a paste. Paints nothing.
     ///
-    /// Errors: `Edit` if memory runs out, only for the end of a paste; nothing has changed, and nothing is stored.
-    fn save<S: Store>(&mut self, store: &mut S) -> Result<(), Refused>
-        ensures saved { OnOk result ((fault : Option StoreFault)
-            × SaveEnds fault (text_to_save (D.data self.old.tables) self.old.session.editor)
+    /// Errors: `Edit` if memory runs out, only for a key that edits, moves, copies, finds or ends a paste; nothing has changed, and nothing
+    /// is stored.
+    fn store_and_press<S: Store>(&mut self, key: Key, store: &mut S) -> Result<(), Refused>
+        requires sides { HasSides key }
+        ensures pressed { (fault : Option StoreFault)
+            × StoreAfter (is_ok result && stores_by self.old.session.editor (Some key)) fault
+            (text_to_save (D.data self.old.tables) self.old.session.editor)
             (store_state S.contents S.faults store.old) (store_state S.contents S.faults store.new)
-            × (self.new ≡ record self.old {
-              session = session_after_key (D.data self.old.tables) fault self.old.session Key.Save;
-            })) }
+            × OnOk result (self.new ≡ record self.old { session = session_after_key (D.data self.old.tables) fault self.old.session key }) }
         ensures err { OnErr result (self.new ≡ self.old) }
-        ensures untouched { OnErr result (store.new ≡ store.old) }
-        ensures edits { OnErr result (keys.may_refuse self.old.session.editor Key.Save ≡ true) }
+        ensures untouched { stores_by self.old.session.editor (Some key) ≡ false → store.new ≡ store.old }
+        ensures edits { OnErr result (keys.may_refuse self.old.session.editor key ≡ true) }
         ensures refused { OnErr result (result ≡ Err Refused.Edit) }
     {
-        self.end_paste()?;
-        let fault = save_pieces(self.editor.pieces(), store).err();
-        self.press(Key::Save, fault)
+        if key == Key::Save {
+            self.end_paste()?;
+        }
+        let fault = self.store_for(key, store);
+        self.press(key, fault)
     }
 
     /// Whether the picture is painted after this key, before the key is applied: it may change the picture, or a painting is owed.
@@ -140,12 +156,8 @@ impl<D: BidiData + Drop> Session<D> {
         let prompts = self.asks_for_painting(key);
         let scroll = scroll_behind(&self.editor, key);
         match key {
-            Some(Key::Save) => {
-                self.save(store)?;
-                Ok((prompts, scroll, key))
-            }
             Some(pressed) => {
-                self.press(pressed, None)?;
+                self.store_and_press(pressed, store)?;
                 Ok((prompts, scroll, key))
             }
             None => Ok((prompts, scroll, key)),

@@ -5,20 +5,41 @@ ghost use Rattle.bx_session.specs.Session.{after_spending, key_of_byte, may_refu
 ghost use Rattle.bx_keys.specs.Decoder.{HasSides};
 ghost use Rattle.bx_editor.specs.Keys.{may_refuse};
 ghost use Rattle.bx_editor.specs.Putting.{paste_ended};
-ghost use Rattle.bx_session.specs.Replaying.{after_replay, after_replayed_key, at_replay_end, at_unscrolled_end, session_after_replayed, session_moved_by, session_replayed_on, session_scrolled};
+ghost use Rattle.bx_session.specs.Replaying.{after_passed, after_replay, after_replayed_key, at_replay_end, at_unscrolled_end, session_after_replayed, session_moved_by, session_replayed_on, session_scrolled};
 ghost use Rattle.bx_store.specs.Faults.{with_fault};
 
 use crate::saving::{is_text, save_pieces};
 use crate::session::Session;
 use crate::status::Refused;
-use bx_editor::{Prompt, Scroll, SearchState};
+use bx_editor::{Prompt, Saving, Scroll, SearchState};
 use bx_keys::Key;
 use bx_store::{Store, StoreFault};
 use bx_ucd::BidiData;
 
 impl<D: BidiData + Drop> Session<D> {
-    /// Applies a key of a journal. A Save and a Quit end what any key ends, first a paste, and a Save a search and a question too; a
-    /// Quit gives up a search or a question. Neither stores a text, nor ends the session.
+    /// Passes over a key of a journal that stored the text: a Save, or an answer.
+    ///
+    /// Errors: `Edit` if memory runs out for the end of a paste; nothing has changed.
+    fn pass_stored(&mut self, key: Key) -> Result<(), Refused>
+        ensures after_key { OnOk result (self.new ≡ record self.old { session = record self.old.session {
+          editor = after_passed (paste_ended (D.data self.old.tables) self.old.session.editor).prompt key
+              (paste_ended (D.data self.old.tables) self.old.session.editor);
+        } }) }
+        ensures err { OnErr result (self.new ≡ self.old) }
+        ensures pasting { OnErr result (is_some self.old.session.editor.pasted ≡ true) }
+        ensures refused { OnErr result (result ≡ Err Refused.Edit) }
+    {
+        self.end_paste()?;
+        match (self.editor.prompt(), key) {
+            (Prompt::File, Key::Save) => self.editor.pass_save(),
+            (Prompt::File, _) => self.editor.pass_answer(),
+            _ => self.editor.pass_save(),
+        }
+        Ok(())
+    }
+
+    /// Applies a key of a journal. A key that stored the text and a Quit end what any key ends, first a paste, and the former a search
+    /// and a question too; a Quit gives up a search or a question. Neither stores a text, nor ends the session.
     ///
     /// Errors: `Edit` if memory runs out, only for a key that edits, moves, copies, finds or ends a paste; nothing has changed.
     fn press_again(&mut self, key: Key) -> Result<(), Refused>
@@ -30,18 +51,14 @@ impl<D: BidiData + Drop> Session<D> {
         ensures edits { OnErr result (may_refuse self.old.session.editor key ≡ true) }
         ensures refused { OnErr result (result ≡ Err Refused.Edit) }
     {
-        match key {
-            Key::Save => {
-                self.end_paste()?;
-                self.editor.pass_save();
-                Ok(())
-            }
-            Key::Quit => {
-                self.end_paste()?;
-                self.pass_quit()
-            }
-            _ => self.press(key, None),
+        if key == Key::Quit {
+            self.end_paste()?;
+            return self.pass_quit();
         }
+        if self.editor.saving_of(key).is_some() {
+            return self.pass_stored(key);
+        }
+        self.press(key, None)
     }
 
     /// Passes over a Quit of a journal, or gives up a search or a question with it, where no paste is under way.
@@ -209,6 +226,6 @@ impl<D: BidiData + Drop> Session<D> {
         ensures stored { OnErr result (S.contents store.new ≡ S.contents store.old) }
         ensures failure { IfErr result (λ fault. S.faults store.new ≡ with_fault fault (S.faults store.old)) }
     {
-        save_pieces(self.editor.pieces(), store)
+        save_pieces(Saving::Own, self.editor.pieces(), store)
     }
 }

@@ -12,7 +12,7 @@ use Rattle.bx_editor.specs.Editor.{Editor, with_size, with_top}
 use Rattle.bx_editor.specs.Keys.{after_key}
 use Rattle.bx_editor.specs.Picture.{next_top}
 use Rattle.bx_session.specs.declared.status.Refused.TheVariants as refused
-use Rattle.bx_session.specs.Session.{StoreState, with_text, is_save_key, text_to_save, needs_painting}
+use Rattle.bx_session.specs.Session.{StoreState, with_text, stores_by, text_to_save, needs_painting}
 use Rattle.bx_world.specs.declared.step.Step.{Step}
 use Rattle.bx_world.specs.declared.step.Step.TheVariants.{Byte, Window, Told, Send, Read}
 use Rattle.bx_world.specs.declared.step.StepFault.{StepFault}
@@ -23,7 +23,7 @@ pub use Rattle.bx_world.specs.World.{is_applied}
 -- what a schedule's step does to the editor
 pub data Event : Type 0 where
   -- a byte of input before the session's end, with the key that it completes, if any; whether the key was applied; why its
-  -- save failed, if it is a Save that failed, else None; and whether the picture was painted after it
+  -- save failed, if it made one that failed, else None; and whether the picture was painted after it
   Input : (byte : ℕ) (key : Option Key) (applied : Bool) (fault : Option StoreFault) (painted : Bool) → Event
   -- the session was told a size, in rows and columns; whether the picture was painted after it
   Telling : (height width : ℕ) (painted : Bool) → Event
@@ -58,10 +58,10 @@ abbrev pub after_save_of : List ℕ → Option StoreFault → StoreState → Sto
 after_save_of text None store = with_text text store
 after_save_of text (Some fault) store = record store { faults = with_fault fault store.faults }
 
--- the store after an event, before which the editor is `e`: only a Save that is applied changes it
+-- the store after an event, before which the editor is `e`: only a key that stores the text, and is applied, changes it
 abbrev pub stored_after : Data → Editor → StoreState → Event → StoreState
 stored_after d e store (Input byte key applied fault painted) =
-    if applied && is_save_key key then after_save_of (text_to_save d e) fault store else store
+    if applied && stores_by e key then after_save_of (text_to_save d e) fault store else store
 stored_after d e store (Telling height width painted) = store
 
 -- the store after events in order: each save is of the text at that moment
@@ -69,12 +69,13 @@ abbrev pub stored_after_all : Data → Editor → StoreState → List Event → 
 stored_after_all d e store [] = store
 stored_after_all d e store (event ∷ more) = stored_after_all d (after_event d e event) (stored_after d e store event) more
 
--- the number of saves that failed
-abbrev pub failed_saves : List Event → ℕ
-failed_saves [] = 0
-failed_saves (Input byte key applied fault painted ∷ more) =
-    if (applied && is_save_key key) && is_some fault then suc (failed_saves more) else failed_saves more
-failed_saves (Telling height width painted ∷ more) = failed_saves more
+-- the number of saves that failed, among events that begin with the editor `e`
+abbrev pub failed_saves : Data → Editor → List Event → ℕ
+failed_saves d e [] = 0
+failed_saves d e (Input byte key applied fault painted ∷ more) =
+    let rest = failed_saves d (after_event d e (Input byte key applied fault painted)) more in
+    if (applied && stores_by e key) && is_some fault then suc rest else rest
+failed_saves d e (Telling height width painted ∷ more) = failed_saves d (after_event d e (Telling height width painted)) more
 
 -- ---- the input of events, and its keys
 

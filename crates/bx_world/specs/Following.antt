@@ -21,4 +21,4 @@ pub record Follows {A : Type 0} (d : Data) (old : World) (store : StoreState) (s
   pub editor : new.session.editor ≡ after_events d old.session.editor events
   pub stored : store' ≡ stored_after_all d old.session.editor store events
   -- the store counts each failed save, up to the largest u64
-  pub failures : store'.faults.count < greatest → store'.faults.count ≡ store.faults.count + failed_saves events
+  pub failures : store'.faults.count < greatest → store'.faults.count ≡ store.faults.count + failed_saves d old.session.editor events

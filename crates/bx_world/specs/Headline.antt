@@ -7,6 +7,7 @@ use Rattle.bx_store.specs.Faults.{greatest}
 use Rattle.bx_ucd.specs.Data.{Data}
 use Rattle.bx_editor.specs.Editor.{Editor}
 use Rattle.bx_editor.specs.Picture.{StandsOnItsCell, picture}
+use Rattle.bx_editor.specs.Status.{input_column}
 use Rattle.bx_session.specs.Session.{clipboard_if, at_opening, before_painting, StoreState}
 use Rattle.bx_world.specs.declared.step.Step.{Step}
 use Rattle.bx_world.specs.declared.step.StepFault.{StepFault}
@@ -27,15 +28,16 @@ pub record Headline {A : Type 0} (d : Data) (start : Editor) (journal : List ℕ
   pub keys : HasKeysOfAll journal events
   pub editor : new.session.editor ≡ after_events d start events
   pub stored : store' ≡ stored_after_all d start store events
-  pub failures : store'.faults.count < greatest → store'.faults.count ≡ store.faults.count + failed_saves events
+  pub failures : store'.faults.count < greatest → store'.faults.count ≡ store.faults.count + failed_saves d start events
   pub shows : is_last_accepted true schedule ≡ true → new.told ≡ true → new.line ≡ [] → new.session.pending ≡ []
       → IfSome new.screen (λ t. Shows t (picture d (after_events d start events) new.session.editor.top))
   -- the terminal is there unless it ran out of memory
   pub live : HasMemory schedule → IsSome new.screen
   -- if the last call was accepted, no painting is owed
   pub owes : is_last_accepted true schedule ≡ true → new.session.painting_owed ≡ false
-  -- the cursor stands so with bytes unread or pending too, and whatever sizes were told
+  -- the cursor stands so with bytes unread or pending too, and whatever sizes were told, unless it is in a prompt's input line
   pub cursor : new.session.painting_owed ≡ false → new.session.editor.ended ≡ false
+      → input_column d (after_events d start events) ≡ None
       → StandsOnItsCell d (after_events d start events) new.session.editor.top (picture d (after_events d start events) new.session.editor.top)
 
 -- the headline for every file, tables and schedule, from a world at its opening, with a clipboard or without
