@@ -80,10 +80,12 @@ Delete:\033[3~\033[P:\033[3~\033[3~
 xterm, rxvt and st, Delete with Control:\033[3;5~\033[3^\033[M:\033[89~\033[89~\033[89~
 Enter:a\rb:a\033[95~b
 Control and @, C, R, V, W, X:\000\003\022\026\027\030:\033[72~\033[73~\033[71~\033[75~\033[70~\033[74~
-Control and B, F:\002\006:\033[71~\033[70~
+Control and A, B, F, O:\001\002\006\017:\033[100~\033[71~\033[70~\033[103~
 Control and the key Q of a Hebrew layout:\037:\021
 xterm, Control and the keys Q and W of a Hebrew layout, where it is asked to tell them:\033[27;5;47~\033[27;5;39~:\021\033[70~
 F7 and F10:\033[18~\033[21~:\033[70~\021
+xterm, rxvt and others, F3 with Shift:\033[1;2R\033[25~\033O1;2R:\033[101~\033[101~\033[101~
+xterm, Right and Left with Alt and Shift:\033[1;4C\033[1;4D:\033[81~\006\033[81~\002
 xterm, Right and Left with Alt:\033[1;3C\033[1;3D:\006\002
 other terminals, Right and Left with Alt:\033\033[C\033\033[D:\006\002
 Control and Y, Z:\031\032:\033[83~\033[82~

@@ -62,6 +62,11 @@ begun beginning.CodeThree = csi (codes "27;5;3")
 begun beginning.CodeThirtyNine = csi (codes "27;5;39")
 begun beginning.CodeFour = csi (codes "27;5;4")
 begun beginning.CodeFortySeven = csi (codes "27;5;47")
+begun beginning.TwentyFive = csi (codes "25")
+begun beginning.ShiftAlternate = csi (codes "1;4")
+begun beginning.SingleShiftOne = 0x1B ∷ 0x4F ∷ codes "1"
+begun beginning.SingleShiftOneAnd = 0x1B ∷ 0x4F ∷ codes "1;"
+begun beginning.SingleShiftShifted = 0x1B ∷ 0x4F ∷ codes "1;2"
 
 -- CSI < and numbers of a mouse report
 abbrev pub begun_report : List ℕ → List ℕ

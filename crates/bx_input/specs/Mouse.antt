@@ -56,23 +56,28 @@ report_fate ps = if is_some (report_of ps) then Ends else if begins_report ps th
 abbrev pub point_bytes : List ℕ → List ℕ → List ℕ
 point_bytes row column = csi (codes "7;") ++ ((row ++ 0x3B ∷ column) ++ codes "t")
 
+-- the sequence of the key Drag
+abbrev pub drag_bytes : List ℕ → List ℕ → List ℕ
+drag_bytes row column = csi (codes "9;") ++ ((row ++ 0x3B ∷ column) ++ codes "t")
+
 -- the keys Select and Point, as sequences
 abbrev pub select_bytes : List ℕ → List ℕ → List ℕ
 select_bytes row column = csi (codes "81~") ++ point_bytes row column
 
--- the wheel goes three lines up, or three down
+-- the wheel scrolls back, or on: ScrollBack and ScrollOn
 abbrev pub wheel_up : List ℕ
-wheel_up = csi (codes "96~") ++ (csi (codes "96~") ++ csi (codes "96~"))
+wheel_up = csi (codes "104~")
 
 abbrev pub wheel_down : List ℕ
-wheel_down = csi (codes "97~") ++ (csi (codes "97~") ++ csi (codes "97~"))
+wheel_down = csi (codes "105~")
 
--- A press of the first button (0) points. With Shift (4), as a move while it is down (32) and as both (36), it selects. 64 and 65
--- are the wheel. Other buttons, moves and modifiers give nothing.
+-- A press of the first button (0) points, and with Shift (4) selects. A move while it is down (32), with Shift too (36), drags. 64
+-- and 65 are the wheel. Other buttons, moves and modifiers give nothing.
 abbrev pub pressed : ℕ → List ℕ → List ℕ → List ℕ
 pressed button row column =
     if button == 0 then point_bytes row column
-    else if (button == 4 || button == 32) || button == 36 then select_bytes row column
+    else if button == 4 then select_bytes row column
+    else if button == 32 || button == 36 then drag_bytes row column
     else if button == 64 then wheel_up
     else if button == 65 then wheel_down
     else []

@@ -7,7 +7,7 @@ use Rattle.bx_keys.specs.declared.key.Key.{Key}
 use Rattle.bx_keys.specs.declared.key.Key.TheVariants.{Insert, Delete, Back, Forward, Right, Left, RowHome, RowEnd, Quit, Direction}
 use Rattle.bx_keys.specs.declared.key.Key.TheVariants.{Mark, Copy, Cut, Put, Find, FindBack, WordLeft, WordRight, TextStart, TextEnd, Help}
 use Rattle.bx_keys.specs.declared.key.Key.TheVariants.{EraseWord, DeleteWord, FindNext, ErasePoint, NewLine, LineUp, LineDown, PageBack, PageOn}
-use Rattle.bx_keys.specs.declared.key.Key.TheVariants.{Select, UndoRun, RedoRun, GoTo, Replace, Name, Tell}
+use Rattle.bx_keys.specs.declared.key.Key.TheVariants.{Select, UndoRun, RedoRun, GoTo, Replace, Name, Tell, SelectAll, FindPrevious, SaveAs}
 
 -- a sequence of a terminal, the bytes that it becomes, and the editor's keys for these: one, or Select and one
 pub record Row : Type 0 where
@@ -153,6 +153,21 @@ find_keys =
     ∷ row (csi (codes "[C")) (csi (codes "92~")) FindNext
     ∷ []
 
+-- F3 with Shift, of xterm, tmux and screen; of rxvt and the Linux console; of terminals that keep SS3
+abbrev previous_keys : List Row
+previous_keys =
+    row (csi (codes "1;2R")) (csi (codes "101~")) FindPrevious
+    ∷ row (csi (codes "25~")) (csi (codes "101~")) FindPrevious
+    ∷ row (ss3 (codes "1;2R")) (csi (codes "101~")) FindPrevious
+    ∷ []
+
+-- Right and Left with Alt and Shift, of xterm, tmux and screen
+abbrev shifted_step_keys : List Row
+shifted_step_keys =
+    selecting_row (csi (codes "1;4C")) (0x06 ∷ []) Forward
+    ∷ selecting_row (csi (codes "1;4D")) (0x02 ∷ []) Back
+    ∷ []
+
 -- F7, of xterm, rxvt and the Linux console; and Ctrl with the key W, where a Hebrew layout gives an apostrophe, of terminals that
 -- are asked to tell Ctrl (xterm's modifyOtherKeys)
 abbrev search_keys : List Row
@@ -205,29 +220,32 @@ selecting_rows = shifted_keys ++ (shifted_rxvt_keys ++ (shifted_st_keys ++ shift
 
 -- the rows whose keys move or select
 abbrev pub move_rows : List Row
-move_rows = row_keys ++ (application_keys ++ (rxvt_keys ++ (selecting_rows ++ (word_keys ++ (text_end_keys ++ step_keys)))))
+move_rows = row_keys ++ (application_keys ++ (rxvt_keys ++ (selecting_rows ++ (word_keys ++ (text_end_keys ++ (step_keys ++ shifted_step_keys))))))
 
--- the other rows whose sequence begins with ESC
-abbrev pub command_rows : List Row
-command_rows =
-    delete_keys
-    ++ (delete_word_keys
-    ++ (erase_word_keys ++ (direction_keys ++ (keypad_digits ++ (help_keys ++ (find_keys ++ (search_keys ++ (replace_keys ++ quit_keys))))))))
+-- the rows whose keys erase, and the digits
+abbrev pub typing_rows : List Row
+typing_rows = delete_keys ++ (delete_word_keys ++ (erase_word_keys ++ keypad_digits))
+
+-- the rows of the function keys
+abbrev pub function_rows : List Row
+function_rows = direction_keys ++ (help_keys ++ (find_keys ++ (previous_keys ++ (search_keys ++ (replace_keys ++ quit_keys)))))
 
 -- the rows whose sequence begins with ESC
 abbrev pub escape_rows : List Row
-escape_rows = move_rows ++ command_rows
+escape_rows = move_rows ++ (typing_rows ++ function_rows)
 
--- the rows whose sequence is one control byte: Ctrl with @ (or the space bar), B, C, F, G, K, R, T, V, W, X, Y, Z, the
+-- the rows whose sequence is one control byte: Ctrl with @ (or the space bar), A, B, C, F, G, K, O, R, T, V, W, X, Y, Z, the
 -- backslash and the slash, which is on the key Q of a Hebrew layout, and Enter
 abbrev pub control_rows : List Row
 control_rows =
     row (0x00 ∷ []) (csi (codes "72~")) Mark
+    ∷ row (0x01 ∷ []) (csi (codes "100~")) SelectAll
     ∷ row (0x02 ∷ []) (csi (codes "71~")) FindBack
     ∷ row (0x03 ∷ []) (csi (codes "73~")) Copy
     ∷ row (0x06 ∷ []) (csi (codes "70~")) Find
     ∷ row (0x07 ∷ []) (csi (codes "84~")) GoTo
     ∷ row (0x0B ∷ []) (csi (codes "86~")) Name
+    ∷ row (0x0F ∷ []) (csi (codes "103~")) SaveAs
     ∷ row (0x12 ∷ []) (csi (codes "71~")) FindBack
     ∷ row (0x14 ∷ []) (csi (codes "87~")) Tell
     ∷ row (0x16 ∷ []) (csi (codes "75~")) Put

@@ -10,10 +10,10 @@ use crate::after_csi::{
     after_alternate, after_bracket, after_code_forty_seven, after_code_four,
     after_code_thirty_nine, after_code_three, after_control_code, after_control_code_and,
     after_controlled, after_csi, after_eight, after_eighteen, after_eleven, after_escape_csi,
-    after_five, after_fourteen, after_one, after_one_and, after_seven, after_shift_controlled,
-    after_shifted, after_six, after_thirteen, after_three, after_three_and, after_three_controlled,
-    after_twelve, after_twenty, after_twenty_one, after_twenty_seven, after_twenty_seven_and,
-    after_two, after_two_hundred,
+    after_five, after_fourteen, after_one, after_one_and, after_seven, after_shift_alternate,
+    after_shift_controlled, after_shifted, after_six, after_thirteen, after_three, after_three_and,
+    after_three_controlled, after_twelve, after_twenty, after_twenty_five, after_twenty_one,
+    after_twenty_seven, after_twenty_seven_and, after_two, after_two_hundred,
 };
 use crate::beginning::Beginning;
 
@@ -91,6 +91,11 @@ pub fn sequence_after(erases_by_delete: bool, waiting: Beginning, byte: u8) -> A
         Beginning::CodeThirtyNine => after_code_thirty_nine(byte),
         Beginning::CodeFour => after_code_four(byte),
         Beginning::CodeFortySeven => after_code_forty_seven(byte),
+        Beginning::TwentyFive => after_twenty_five(byte),
+        Beginning::ShiftAlternate => after_shift_alternate(byte),
+        Beginning::SingleShiftOne => after_single_shift_one(byte),
+        Beginning::SingleShiftOneAnd => after_single_shift_one_and(byte),
+        Beginning::SingleShiftShifted => after_single_shift_shifted(byte),
     }
 }
 
@@ -110,14 +115,15 @@ fn after_nothing(erases_by_delete: bool, byte: u8) -> After
     }
 }
 
-/// The sequence that a byte of the table becomes, without `US`: Mark, FindBack, Copy, Find, GoTo, EraseWord, ErasePoint, Name,
-/// NewLine, FindBack, Tell, Put, Find, Cut, RedoRun, UndoRun, Replace.
+/// The sequence that a byte of the table becomes, without `US`: Mark, SelectAll, FindBack, Copy, Find, GoTo, EraseWord, ErasePoint,
+/// Name, NewLine, SaveAs, FindBack, Tell, Put, Find, Cut, RedoRun, UndoRun, Replace.
 pub fn control_key(erases_by_delete: bool, byte: u8) -> Option<&'static [u8]>
     ensures key { IfSome result (λ key. (fate (byte ∷ []) ≡ fate_is.Ends) × (becomes_of erases_by_delete (byte ∷ []) ≡ Some key.now) × BeginsByEscape key.now) }
     ensures none { result ≡ None → byte ≢ 0x1B → byte ≢ 0x1F → fate (byte ∷ []) ≡ fate_is.Breaks }
 {
     match byte {
         0x00 => Some(b"\x1b[72~"),
+        0x01 => Some(b"\x1b[100~"),
         0x02 => Some(b"\x1b[71~"),
         0x03 => Some(b"\x1b[73~"),
         0x06 => Some(b"\x1b[70~"),
@@ -126,6 +132,7 @@ pub fn control_key(erases_by_delete: bool, byte: u8) -> Option<&'static [u8]>
         0x08 | 0x7F => Some(b"\x1b[94~"),
         0x0B => Some(b"\x1b[86~"),
         0x0D => Some(b"\x1b[95~"),
+        0x0F => Some(b"\x1b[103~"),
         0x12 => Some(b"\x1b[71~"),
         0x14 => Some(b"\x1b[87~"),
         0x16 => Some(b"\x1b[75~"),
@@ -154,6 +161,7 @@ fn after_single_shift(byte: u8) -> After
         b'Q' => After::Becomes(b"\x1b[9~"),
         b'R' => After::Becomes(b"\x1b[92~"),
         b'S' => After::Becomes(b"\x1b[85~"),
+        b'1' => After::Waits(Beginning::SingleShiftOne),
         b'c' => After::Becomes(b"\x1b[77~"),
         b'd' => After::Becomes(b"\x1b[76~"),
         b'p' => After::Byte(b'0'),
@@ -189,6 +197,36 @@ fn after_two_escapes(byte: u8) -> After
 {
     match byte {
         b'[' => After::Waits(Beginning::EscapeCsi),
+        _ => After::Breaks,
+    }
+}
+
+/// After ESC O 1
+fn after_single_shift_one(byte: u8) -> After
+    ensures { (erases_by_delete : Bool) → Tells erases_by_delete result (0x1B ∷ 0x4F ∷ 0x31 ∷ byte ∷ []) }
+{
+    match byte {
+        b';' => After::Waits(Beginning::SingleShiftOneAnd),
+        _ => After::Breaks,
+    }
+}
+
+/// After ESC O 1;
+fn after_single_shift_one_and(byte: u8) -> After
+    ensures { (erases_by_delete : Bool) → Tells erases_by_delete result (0x1B ∷ 0x4F ∷ 0x31 ∷ 0x3B ∷ byte ∷ []) }
+{
+    match byte {
+        b'2' => After::Waits(Beginning::SingleShiftShifted),
+        _ => After::Breaks,
+    }
+}
+
+/// After ESC O 1;2: FindPrevious
+fn after_single_shift_shifted(byte: u8) -> After
+    ensures { (erases_by_delete : Bool) → Tells erases_by_delete result (0x1B ∷ 0x4F ∷ 0x31 ∷ 0x3B ∷ 0x32 ∷ byte ∷ []) }
+{
+    match byte {
+        b'R' => After::Becomes(b"\x1b[101~"),
         _ => After::Breaks,
     }
 }

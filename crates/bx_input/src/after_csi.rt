@@ -33,7 +33,7 @@ pub fn after_csi(byte: u8) -> After
     }
 }
 
-/// After CSI 1;2: Select and LineUp, LineDown, Right, Left, RowHome, RowEnd
+/// After CSI 1;2: Select and LineUp, LineDown, Right, Left, RowHome, RowEnd; FindPrevious
 pub fn after_shifted(byte: u8) -> After
     ensures { (erases_by_delete : Bool) → Tells erases_by_delete result (0x1B ∷ 0x5B ∷ 0x31 ∷ 0x3B ∷ 0x32 ∷ byte ∷ []) }
 {
@@ -44,6 +44,7 @@ pub fn after_shifted(byte: u8) -> After
         b'D' => After::Becomes(b"\x1b[81~\x1b[D"),
         b'H' => After::Becomes(b"\x1b[81~\x1b[H"),
         b'F' => After::Becomes(b"\x1b[81~\x1b[F"),
+        b'R' => After::Becomes(b"\x1b[101~"),
         _ => After::Breaks,
     }
 }
@@ -136,6 +137,7 @@ pub fn after_one_and(byte: u8) -> After
     match byte {
         b'2' => After::Waits(Beginning::Shifted),
         b'3' => After::Waits(Beginning::Alternate),
+        b'4' => After::Waits(Beginning::ShiftAlternate),
         b'5' => After::Waits(Beginning::Controlled),
         b'6' => After::Waits(Beginning::ShiftControlled),
         _ => After::Breaks,
@@ -149,6 +151,7 @@ pub fn after_two(byte: u8) -> After
     match byte {
         b'0' => After::Waits(Beginning::Twenty),
         b'1' => After::Waits(Beginning::TwentyOne),
+        b'5' => After::Waits(Beginning::TwentyFive),
         b'7' => After::Waits(Beginning::TwentySeven),
         b'J' => After::Becomes(b"\x1b[81~\x1b[H"),
         b'K' => After::Becomes(b"\x1b[81~\x1b[F"),
@@ -385,6 +388,27 @@ pub fn after_code_forty_seven(byte: u8) -> After
 {
     match byte {
         b'~' => After::Byte(QUIT),
+        _ => After::Breaks,
+    }
+}
+
+/// After CSI 25: FindPrevious
+pub fn after_twenty_five(byte: u8) -> After
+    ensures { (erases_by_delete : Bool) → Tells erases_by_delete result (0x1B ∷ 0x5B ∷ 0x32 ∷ 0x35 ∷ byte ∷ []) }
+{
+    match byte {
+        b'~' => After::Becomes(b"\x1b[101~"),
+        _ => After::Breaks,
+    }
+}
+
+/// After CSI 1;4: Select and Forward, Back
+pub fn after_shift_alternate(byte: u8) -> After
+    ensures { (erases_by_delete : Bool) → Tells erases_by_delete result (0x1B ∷ 0x5B ∷ 0x31 ∷ 0x3B ∷ 0x34 ∷ byte ∷ []) }
+{
+    match byte {
+        b'C' => After::Becomes(b"\x1b[81~\x06"),
+        b'D' => After::Becomes(b"\x1b[81~\x02"),
         _ => After::Breaks,
     }
 }

@@ -80,6 +80,16 @@ pub enum Beginning {
     CodeFour,
     /// CSI 27;5;47
     CodeFortySeven,
+    /// CSI 25
+    TwentyFive,
+    /// CSI 1;4
+    ShiftAlternate,
+    /// ESC O 1
+    SingleShiftOne,
+    /// ESC O 1;
+    SingleShiftOneAnd,
+    /// ESC O 1;2
+    SingleShiftShifted,
 }
 
 impl Beginning {
@@ -125,6 +135,11 @@ impl Beginning {
             Beginning::CodeThirtyNine => b"\x1b[27;5;39",
             Beginning::CodeFour => b"\x1b[27;5;4",
             Beginning::CodeFortySeven => b"\x1b[27;5;47",
+            Beginning::TwentyFive => b"\x1b[25",
+            Beginning::ShiftAlternate => b"\x1b[1;4",
+            Beginning::SingleShiftOne => b"\x1bO1",
+            Beginning::SingleShiftOneAnd => b"\x1bO1;",
+            Beginning::SingleShiftShifted => b"\x1bO1;2",
         }
     }
 }

@@ -125,9 +125,10 @@ fn reported(is_open: bool, report: Report<'_>) -> Output
     }
     match report.button {
         0 => cell(b"\x1b[7;", report.row, report.column),
-        4 | 32 | 36 => cell(b"\x1b[81~\x1b[7;", report.row, report.column),
-        64 => keys(b"\x1b[96~\x1b[96~\x1b[96~"),
-        65 => keys(b"\x1b[97~\x1b[97~\x1b[97~"),
+        4 => cell(b"\x1b[81~\x1b[7;", report.row, report.column),
+        32 | 36 => cell(b"\x1b[9;", report.row, report.column),
+        64 => keys(b"\x1b[104~"),
+        65 => keys(b"\x1b[105~"),
         _ => nothing_after(is_open),
     }
 }
@@ -139,7 +140,7 @@ fn nothing_after(is_open: bool) -> Output
     plain(can(is_open), None)
 }
 
-/// The output of these bytes, a row and a column, and the final byte of the key Point.
+/// The output of these bytes, a row and a column, and the final byte of the keys Point and Drag.
 fn cell(before: &'static [u8], row: &[u8], column: &[u8]) -> Output
     requires row { keys_are.is_side_in_digits row.now ≡ true }
     requires column { keys_are.is_side_in_digits column.now ≡ true }

@@ -15,7 +15,7 @@ pub struct Output {
     pub before: &'static [u8],
     /// The numbers of a mouse report, at most eleven bytes: all of one that broke off, or a cell's row and column.
     pub numbers: Numbers,
-    /// The bytes of one to three keys, at most fifteen (LineUp three times), or what ends a key with numbers.
+    /// The bytes of one or two keys, at most ten (Select and LineUp), or what ends a key with numbers.
     pub key: &'static [u8],
     /// The byte that goes out last, if any.
     pub byte: Option<u8>,

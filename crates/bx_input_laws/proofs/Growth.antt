@@ -1,4 +1,4 @@
--- Output is at most five times as long as the input, and at most ten thirds as long without keys of one byte.
+-- Output is at most six times as long as the input, and at most ten thirds as long without keys of one byte.
 use Rattle.std.proofs.Common.{◌≡◌, ℕ, ◌+◌, ◌*◌, ◌≤◌, inl, inr, Bool, true, false, not, ◌&&◌, nat_le}
 use Rattle.std.proofs.Common.{cond, List, [], ◌∷◌, ◌++◌, length, drop, Option, Some, None, refl, ap, sym, ◌∙◌, subst, arith, length-append}
 use Rattle.std.specs.Prelude.{find}
@@ -16,29 +16,29 @@ use Rattle.bx_input.specs.Table.{Row, paste_end, rows, row_of}
 use Rattle.bx_input.specs.Paste.{pasted_byte, pasted_part, paste_fate}
 use Rattle.bx_input.specs.Filter.{State, Outside, Within, Step, ended_in_paste, paste_step_by, fresh_in_paste, ended, start, at_end, apart_from, fresh, broken}
 use Rattle.bx_input.specs.Filter.{has_two_escapes, plain_step, behind_escape, step_by, step, run, filtered}
-use Rattle.bx_input_laws.specs.Laws.{waiting_in, is_key_byte, GrowsFiveTimes, GrowsByTenThirds}
+use Rattle.bx_input_laws.specs.Laws.{waiting_in, is_key_byte, GrowsSixTimes, GrowsByTenThirds}
 use Rattle.bx_input_laws.proofs.Known.{IsKnown, ReportIs, RowIs, StartIs, known_ends}
 use Rattle.bx_input_laws.proofs.ReportFields.{has_lengths, report_fits}
 use Rattle.bx_input.proofs.Rows.{is_open_after}
 
--- Three bytes that go out count for ten thirds of one that came, or waits. A key of one byte counts for half of that more.
+-- Three bytes that go out count for ten thirds of one that came, or waits. A key of one byte counts for eight thirds more.
 abbrev weight : Step → ℕ
 weight s = 3 * length s.output + 10 * length (waiting_in s.state)
 
 extra : ℕ → ℕ
-extra b = cond (is_key_byte b) 5 0
+extra b = cond (is_key_byte b) 8 0
 
-extra_by : (t : Bool) → cond t 5 0 ≤ 5
+extra_by : (t : Bool) → cond t 8 0 ≤ 8
 extra_by true = omega arith
 extra_by false = omega arith
 
-five_at_most : (b : ℕ) → extra b ≤ 5
+eight_at_most : (b : ℕ) → extra b ≤ 8
 unfolding extra
-five_at_most b = extra_by (is_key_byte b)
+eight_at_most b = extra_by (is_key_byte b)
 
 no_extra : (b : ℕ) → is_key_byte b ≡ false → extra b ≡ 0
 unfolding extra
-no_extra b h = cond-false (is_key_byte b) 5 0 h
+no_extra b h = cond-false (is_key_byte b) 8 0 h
 
 extras : List ℕ → ℕ
 extras [] = 0
@@ -195,10 +195,10 @@ module _ (by_delete : Bool) where
       let all : Step = run by_delete start bs in
       omega (arith, run_weighs start bs, length-append all.output (at_end all.state), end_is_shorter all.state)
 
-  five_each : (bs : List ℕ) → extras bs ≤ 5 * length bs
+  eight_each : (bs : List ℕ) → extras bs ≤ 8 * length bs
   unfolding extras
-  five_each [] = omega arith
-  five_each (b ∷ bs) = omega (arith, five_at_most b, five_each bs)
+  eight_each [] = omega arith
+  eight_each (b ∷ bs) = omega (arith, eight_at_most b, eight_each bs)
 
   none_extra : (bs : List ℕ) → list_all (λ b. not (is_key_byte b)) bs ≡ true → extras bs ≡ 0
   unfolding extras
@@ -207,8 +207,8 @@ module _ (by_delete : Bool) where
       let parts = and_parts (not (is_key_byte b)) (list_all (λ x. not (is_key_byte x)) bs) h in
       omega (arith, no_extra b (not-true (is_key_byte b) parts.0), none_extra bs parts.1)
 
-  pub grows_five_times : GrowsFiveTimes by_delete
-  grows_five_times bs = omega (arith, filtered_weighs bs, five_each bs)
+  pub grows_six_times : GrowsSixTimes by_delete
+  grows_six_times bs = omega (arith, filtered_weighs bs, eight_each bs)
 
   pub grows_by_ten_thirds : GrowsByTenThirds by_delete
   grows_by_ten_thirds bs h = omega (arith, filtered_weighs bs, none_extra bs h)

@@ -5,7 +5,7 @@ use Rattle.bx_keys.specs.Keys.{decoding}
 use Rattle.bx_keys.specs.declared.key.Key.{Key}
 use Rattle.bx_keys.specs.declared.key.Key.TheVariants.{Insert, Mark, Copy, Cut, Put, Find, FindBack, WordLeft, WordRight, TextStart, TextEnd, Help, Notice}
 use Rattle.bx_keys.specs.declared.key.Key.TheVariants.{EraseWord, DeleteWord, FindNext, Cancel, ErasePoint, NewLine, LineUp, LineDown, PageBack, PageOn, Right, Left, RowHome, RowEnd, Delete}
-use Rattle.bx_keys.specs.declared.key.Key.TheVariants.{Back, Forward, Quit}
+use Rattle.bx_keys.specs.declared.key.Key.TheVariants.{Back, Forward, Quit, SelectAll, FindPrevious, SaveAs}
 use Rattle.bx_keys.specs.declared.key.Key.TheVariants.{Select, UndoRun, RedoRun, GoTo, Replace, Name, Tell, PasteStart, PasteEnd}
 use Rattle.bx_keys.specs.declared.notice.Notice.TheVariants.{NoSpace, InPlace}
 use Rattle.bx_input.specs.Table.{Row, rows, paste_start, paste_end}
@@ -41,10 +41,10 @@ pub others_go_through : filtered (codes "\u{13}\u{11}\u{c}\n") ≡ codes "\u{13}
 others_go_through = refl
 
 -- CTRL-F and CTRL-B search, and what CTRL gives with the key Q of a Hebrew layout is Quit
-pub searches_and_quit : filtered (codes "\u{6}\u{2}\u{1f}\u{12}\u{17}") ≡ codes "\u{1b}[70~\u{1b}[71~\u{11}\u{1b}[71~\u{1b}[70~"
+pub searches_and_quit : filtered (codes "\u{6}\u{2}\u{1}\u{f}\u{1f}\u{12}\u{17}") ≡ codes "\u{1b}[70~\u{1b}[71~\u{1b}[100~\u{1b}[103~\u{11}\u{1b}[71~\u{1b}[70~"
 searches_and_quit = refl
 
-pub keys_of_searches : keys (codes "\u{6}\u{2}\u{1f}\u{12}\u{17}") ≡ Find ∷ FindBack ∷ Quit ∷ FindBack ∷ Find ∷ []
+pub keys_of_searches : keys (codes "\u{6}\u{2}\u{1}\u{f}\u{1f}\u{12}\u{17}") ≡ Find ∷ FindBack ∷ SelectAll ∷ SaveAs ∷ Quit ∷ FindBack ∷ Find ∷ []
 keys_of_searches = refl
 
 -- Right and Left with Alt
@@ -57,6 +57,17 @@ keys_of_steps = refl
 -- F10 and F7, and CTRL with the keys Q and W of a Hebrew layout
 pub f10_and_f7 : filtered (codes "\u{1b}[21~\u{1b}[18~\u{1b}[27;5;47~\u{1b}[27;5;39~") ≡ codes "\u{11}\u{1b}[70~\u{11}\u{1b}[70~"
 f10_and_f7 = refl
+
+-- F3 with Shift
+pub previous_matches : filtered (codes "\u{1b}[1;2R\u{1b}[25~\u{1b}O1;2R") ≡ codes "\u{1b}[101~\u{1b}[101~\u{1b}[101~"
+previous_matches = refl
+
+pub keys_of_previous_matches : keys (codes "\u{1b}[1;2R\u{1b}[25~\u{1b}O1;2R") ≡ FindPrevious ∷ FindPrevious ∷ FindPrevious ∷ []
+keys_of_previous_matches = refl
+
+-- Right and Left with Alt and Shift
+pub steps_with_alt_and_shift : keys (codes "\u{1b}[1;4C\u{1b}[1;4D") ≡ Select ∷ Forward ∷ Select ∷ Back ∷ []
+steps_with_alt_and_shift = refl
 
 abbrev near_sequences : List ℕ
 near_sequences = codes "\u{1b}[1;3A\u{1b}[17~\u{1b}[24~\u{1b}[26~\u{1b}[1;3R\u{1b}[27;5;40~\u{1b}[27;6;39~\u{1b}[27;5;47u"
@@ -165,8 +176,8 @@ pub no_question_in_a_paste : filtered (paste_start ++ (codes "a\u{1a}\u{7}\u{b}\
 no_question_in_a_paste = refl
 
 -- a paste neither searches nor quits
-pub no_search_in_a_paste : filtered (paste_start ++ (codes "\u{6}\u{2}\u{1f}\u{1b}[1;3C\u{1b}\u{1b}[C\u{1b}[21~\u{1b}[18~\u{1b}[27;5;39~" ++ paste_end) ++ codes "\u{6}")
-    ≡ codes "\u{1b}[90~[1;3C[C[21~[18~[27;5;39~\u{1b}[91~\u{1b}[70~"
+pub no_search_in_a_paste : filtered (paste_start ++ (codes "\u{6}\u{2}\u{1}\u{f}\u{1f}\u{1b}[1;3C\u{1b}\u{1b}[C\u{1b}[21~\u{1b}[18~\u{1b}[1;2R\u{1b}O1;2R\u{1b}[27;5;39~" ++ paste_end) ++ codes "\u{6}")
+    ≡ codes "\u{1b}[90~[1;3C[C[21~[18~[1;2RO1;2R[27;5;39~\u{1b}[91~\u{1b}[70~"
 no_search_in_a_paste = refl
 
 -- a paste neither erases nor cancels
@@ -232,6 +243,12 @@ questions_behind_broken = refl
 pub searches_behind_broken : keys (codes "\u{1b}[1;5\u{6}\u{1b}O\u{6}\u{1b}\u{6}\u{1b}[1;5\u{2}\u{1b}O\u{2}\u{1b}\u{2}\u{1b}[8;2;3\u{6}")
     ≡ Find ∷ Find ∷ Find ∷ FindBack ∷ FindBack ∷ FindBack ∷ Find ∷ []
 searches_behind_broken = refl
+
+pub all_behind_broken : keys (codes "\u{1b}[1;5\u{1}\u{1b}O\u{1}\u{1b}\u{1}") ≡ SelectAll ∷ SelectAll ∷ SelectAll ∷ []
+all_behind_broken = refl
+
+pub enter_behind_broken : keys (codes "\u{1b}O1;2\r") ≡ Insert 0x3B ∷ Insert 0x32 ∷ NewLine ∷ []
+enter_behind_broken = refl
 
 pub quit_behind_broken : filtered (codes "\u{1b}[1;5\u{1f}") ≡ codes "\u{1b}[1;5\u{18}\u{11}"
 quit_behind_broken = refl

@@ -18,7 +18,7 @@ use Rattle.bx_input.specs.Filter.{State, Outside, Within, Step, step_to, start, 
 use Rattle.bx_input.specs.Mouse.{opens_report}
 use Rattle.bx_input_laws.specs.Laws.{AddsReportKeys, HasNoReport, is_report}
 use Rattle.bx_input_laws.specs.Laws.{ComesInPieces, WaitsForFourteen, waiting_in, BecomesRow, HasNone, OthersPass, PastesText, IsText, PastesAreClean}
-use Rattle.bx_input_laws.specs.Laws.{GrowsFiveTimes, GrowsByTenThirds}
+use Rattle.bx_input_laws.specs.Laws.{GrowsSixTimes, GrowsByTenThirds}
 use Rattle.bx_input_laws.specs.Laws.{HasKeys, AddsKeys, has_short, HasNoShort, GrowsByTwoThirds, PastesInsert, PastesKeepCharacters}
 
 -- ---- bytes with which no sequence begins
@@ -182,9 +182,9 @@ of_others_pass law bs n m = law bs (no_sequence sequences bs refl n) (no_report 
 pub of_others_pass_text : OthersPass false → filtered (codes "a\u{11}\u{13}\n") ≡ codes "a\u{11}\u{13}\n"
 of_others_pass_text law = of_others_pass law (codes "a\u{11}\u{13}\n") refl refl
 
--- CTRL-W
-pub of_grows_five_times : GrowsFiveTimes false → length (filtered (codes "\u{17}")) ≤ 5
-of_grows_five_times law = law (codes "\u{17}")
+-- CTRL-A
+pub of_grows_six_times : GrowsSixTimes false → length (filtered (codes "\u{1}")) ≤ 6
+of_grows_six_times law = law (codes "\u{1}")
 
 -- Shift and Up in three bytes
 pub of_grows_by_ten_thirds : GrowsByTenThirds false → length (filtered (codes "\u{1b}[a")) ≤ 10

@@ -3,7 +3,7 @@ use Rattle.std.proofs.Common.{◌≡◌, ℕ, false, List, [], ◌∷◌, ◌++�
 use Rattle.std.specs.Prelude.{codes}
 use Rattle.bx_keys.specs.Keys.{decoding}
 use Rattle.bx_keys.specs.declared.key.Key.{Key}
-use Rattle.bx_keys.specs.declared.key.Key.TheVariants.{Insert, LineDown, LineUp, NewLine, PasteEnd, PasteStart, Point, Select}
+use Rattle.bx_keys.specs.declared.key.Key.TheVariants.{Insert, LineUp, NewLine, PasteEnd, PasteStart, Point, Drag, ScrollBack, ScrollOn, Select}
 use Rattle.bx_input.specs.Table.{paste_start, paste_end}
 use Rattle.bx_input.specs.Filter as filter
 
@@ -22,13 +22,13 @@ pub a_press_points : keys (codes "\u{1b}[<0;3;2M") ≡ Point 2 3 ∷ []
 a_press_points = refl
 
 -- a press with Shift, a move with the button down, and both
-pub drags : filtered (codes "\u{1b}[<4;3;2M\u{1b}[<32;3;2M") ≡ codes "\u{1b}[81~\u{1b}[7;2;3t\u{1b}[81~\u{1b}[7;2;3t"
+pub drags : filtered (codes "\u{1b}[<4;3;2M\u{1b}[<32;3;2M") ≡ codes "\u{1b}[81~\u{1b}[7;2;3t\u{1b}[9;2;3t"
 drags = refl
 
-pub drags_select : keys (codes "\u{1b}[<4;3;2M\u{1b}[<32;3;2M\u{1b}[<36;3;2M") ≡ Select ∷ Point 2 3 ∷ Select ∷ Point 2 3 ∷ Select ∷ Point 2 3 ∷ []
+pub drags_select : keys (codes "\u{1b}[<4;3;2M\u{1b}[<32;3;2M\u{1b}[<36;3;2M") ≡ Select ∷ Point 2 3 ∷ Drag 2 3 ∷ Drag 2 3 ∷ []
 drags_select = refl
 
-pub the_wheel : keys (codes "\u{1b}[<64;3;2M\u{1b}[<65;3;2M") ≡ LineUp ∷ LineUp ∷ LineUp ∷ LineDown ∷ LineDown ∷ LineDown ∷ []
+pub the_wheel : keys (codes "\u{1b}[<64;3;2M\u{1b}[<65;3;2M") ≡ ScrollBack ∷ ScrollOn ∷ []
 the_wheel = refl
 
 -- other buttons, moves with none, and other modifiers
@@ -49,8 +49,11 @@ releases = refl
 pub the_last_cell : keys (codes "\u{1b}[<0;500;500M") ≡ Point 500 500 ∷ []
 the_last_cell = refl
 
-pub leading_zeros : filtered (codes "\u{1b}[<00;007;01M") ≡ codes "\u{1b}[7;01;007t"
+pub leading_zeros : filtered (codes "\u{1b}[<00;007;01M\u{1b}[<32;003;02M") ≡ codes "\u{1b}[7;01;007t\u{1b}[9;02;003t"
 leading_zeros = refl
+
+pub keys_go_through : filtered (codes "\u{1b}[9;2;3t\u{1b}[104~\u{1b}[105~") ≡ codes "\u{1b}[9;2;3t\u{1b}[104~\u{1b}[105~"
+keys_go_through = refl
 
 -- ---- what is no report goes through, and is no key
 
@@ -110,6 +113,9 @@ broken_by_shift_and_up = refl
 
 pub a_report_in_a_paste : filtered (paste_start ++ (codes "\u{1b}[<0;3;2Ma" ++ paste_end)) ≡ codes "\u{1b}[90~[<0;3;2Ma\u{1b}[91~"
 a_report_in_a_paste = refl
+
+pub a_drag_in_a_paste : filtered (paste_start ++ (codes "\u{1b}[<32;3;2M" ++ paste_end)) ≡ codes "\u{1b}[90~[<32;3;2M\u{1b}[91~"
+a_drag_in_a_paste = refl
 
 pub a_cell_in_a_paste : filtered (paste_start ++ (codes "\u{1b}[7;1;1t" ++ paste_end) ++ codes "\u{1b}[<0;3;2M") ≡ codes "\u{1b}[90~[7;1;1t\u{1b}[91~\u{1b}[7;2;3t"
 a_cell_in_a_paste = refl

@@ -14,7 +14,7 @@ use Rattle.bx_bytes.specs.declared.fate.Fate.TheVariants.{Waits, Ends, Breaks}
 use Rattle.bx_input.specs.Filter as filter
 use Rattle.bx_input.specs.Table as table
 use Rattle.bx_input.specs.Known.{fate}
-use Rattle.bx_input.specs.Table.{Row, move_rows, command_rows, escape_rows, control_rows, erase_rows, byte_rows, sequences}
+use Rattle.bx_input.specs.Table.{Row, move_rows, typing_rows, function_rows, escape_rows, control_rows, erase_rows, byte_rows, sequences}
 use Rattle.bx_input.specs.Filter.{State, Outside, Step, step_to, with_front, ended, start, at_end, apart_from, has_two_escapes}
 use Rattle.bx_input_laws.specs.Laws.{are_escapes, became, longer_by, BecomesRow, HasNone, HasNoReport, is_report, OthersPass}
 use Rattle.bx_input_laws.proofs.Firsts.{lacks_after_first, lacks_behind}
@@ -213,11 +213,15 @@ module _ (by_delete : Bool) where
   are_move_rows : AllByRecursion IsRow move_rows
   are_move_rows = search rules
 
-  are_command_rows : AllByRecursion IsRow command_rows
-  are_command_rows = search rules
+  are_typing_rows : AllByRecursion IsRow typing_rows
+  are_typing_rows = search rules
+
+  are_function_rows : AllByRecursion IsRow function_rows
+  are_function_rows = search rules
 
   are_rows : AllByRecursion IsRow escape_rows
-  are_rows = all_joined IsRow move_rows command_rows are_move_rows are_command_rows
+  are_rows =
+      all_joined IsRow move_rows (typing_rows ++ function_rows) are_move_rows (all_joined IsRow typing_rows function_rows are_typing_rows are_function_rows)
 
   -- ---- the rows of one byte
 
@@ -288,43 +292,7 @@ module _ (by_delete : Bool) where
   }
 
   are_control_rows : AllByRecursion IsControlRow control_rows
-  are_control_rows = (
-    control_row _ 0x00 refl refl refl refl refl refl,
-    (
-      control_row _ 0x02 refl refl refl refl refl refl,
-      (
-        control_row _ 0x03 refl refl refl refl refl refl,
-        (
-          control_row _ 0x06 refl refl refl refl refl refl,
-          (
-            control_row _ 0x07 refl refl refl refl refl refl,
-            (
-              control_row _ 0x0B refl refl refl refl refl refl,
-              (
-                control_row _ 0x12 refl refl refl refl refl refl,
-                (
-                  control_row _ 0x14 refl refl refl refl refl refl,
-                  (
-                    control_row _ 0x16 refl refl refl refl refl refl,
-                    (
-                      control_row _ 0x17 refl refl refl refl refl refl,
-                      (
-                        control_row _ 0x18 refl refl refl refl refl refl,
-                        (
-                          control_row _ 0x19 refl refl refl refl refl refl,
-                          (control_row _ 0x1A refl refl refl refl refl refl, (control_row _ 0x1C refl refl refl refl refl refl, (control_row _ 0x1F refl refl refl refl refl refl, (control_row _ 0x0D refl refl refl refl refl refl, tt)))),
-                        ),
-                      ),
-                    ),
-                  ),
-                ),
-              ),
-            ),
-          ),
-        ),
-      ),
-    ),
-  )
+  are_control_rows = (control_row _ 0x00 refl refl refl refl refl refl, (control_row _ 0x01 refl refl refl refl refl refl, (control_row _ 0x02 refl refl refl refl refl refl, (control_row _ 0x03 refl refl refl refl refl refl, (control_row _ 0x06 refl refl refl refl refl refl, (control_row _ 0x07 refl refl refl refl refl refl, (control_row _ 0x0B refl refl refl refl refl refl, (control_row _ 0x0F refl refl refl refl refl refl, (control_row _ 0x12 refl refl refl refl refl refl, (control_row _ 0x14 refl refl refl refl refl refl, (control_row _ 0x16 refl refl refl refl refl refl, (control_row _ 0x17 refl refl refl refl refl refl, (control_row _ 0x18 refl refl refl refl refl refl, (control_row _ 0x19 refl refl refl refl refl refl, (control_row _ 0x1A refl refl refl refl refl refl, (control_row _ 0x1C refl refl refl refl refl refl, (control_row _ 0x1F refl refl refl refl refl refl, (control_row _ 0x0D refl refl refl refl refl refl, tt))))))))))))))))))
 
   -- a byte that a sequence has as its first, or behind an ESC alone
   pub record IsEraseRow (r : Row) : Type 0 where

@@ -14,11 +14,11 @@ use Rattle.bx_keys.specs.Items.{is_item}
 use Rattle.bx_keys.specs.Keys.{Decoding, decoding, key_of, key_by_kind, is_side_in_digits, final_byte, before_final, sides_key, sequence_key}
 use Rattle.bx_keys.specs.Waiting as editor
 use Rattle.bx_keys.specs.declared.key.Key.{Key}
-use Rattle.bx_keys.specs.declared.key.Key.TheVariants.{Point, Select, LineUp, LineDown}
+use Rattle.bx_keys.specs.declared.key.Key.TheVariants.{Point, Drag, Select, ScrollBack, ScrollOn}
 use Rattle.bx_keys.proofs.Cuts.{in_pieces}
 use Rattle.bx_keys.proofs.Feeding.{item_decoding, waits_decoding}
 use Rattle.bx_input.specs.Filter.{apart_from}
-use Rattle.bx_input.specs.Mouse.{Report, point_bytes, wheel_up, wheel_down, pressed, reported}
+use Rattle.bx_input.specs.Mouse.{Report, point_bytes, drag_bytes, wheel_up, wheel_down, pressed, reported}
 use Rattle.bx_input.specs.Table.{csi}
 use Rattle.bx_input.proofs.Reports.{semicolon, side_is}
 use Rattle.bx_input_laws.specs.Laws.{pressed_keys, keys_of_report}
@@ -53,6 +53,9 @@ past_cell row column h g =
 point_item : (row column : List ℕ) → all_ascii_digits row ≡ true → all_ascii_digits column ≡ true → is_item (point_bytes row column) ≡ true
 point_item row column h g = ap (λ t. t || false) (ap (matches (One 0x40 0x7E ∷ [])) (past_cell row column h g))
 
+drag_item : (row column : List ℕ) → all_ascii_digits row ≡ true → all_ascii_digits column ≡ true → is_item (drag_bytes row column) ≡ true
+drag_item row column h g = ap (λ t. t || false) (ap (matches (One 0x40 0x7E ∷ [])) (past_cell row column h g))
+
 no_semicolon : (b : ℕ) → is_ascii_digit b ≡ true → nat_eq b 0x3B ≡ false
 no_semicolon b h = grind (arith, nat_tests)
 
@@ -78,14 +81,22 @@ sides_at_end front =
     cond-true (nat_eq (final_byte body) 0x74) (sides_key (slice_split semicolon (before_final body))) _ (ap (λ b. nat_eq b 0x74) last)
     ∙ ap (λ bs. sides_key (slice_split semicolon bs)) (take_at front (0x74 ∷ []) (length body - 1) (omega (arith, length_push front 0x74)))
 
+-- the key of a sequence of two sides, whose first number is one digit that is `kind`
+sides_by : (kind : ℕ) (row column : List ℕ) → is_side_in_digits row ≡ true → is_side_in_digits column ≡ true
+    → sides_key ((kind ∷ []) ∷ slice_split semicolon (row ++ 0x3B ∷ column)) ≡ key_by_kind (kind ∷ []) (digits_value 10 row) (digits_value 10 column)
+sides_by kind row column h g =
+    let fields = first_field row column (side_is row h).digits ∙ ap (λ fields. row ∷ fields) (last_field column (side_is column g).digits) in
+    ap (λ fields. sides_key ((kind ∷ []) ∷ fields)) fields
+    ∙ cond-true (is_side_in_digits row && is_side_in_digits column) (key_by_kind (kind ∷ []) (digits_value 10 row) (digits_value 10 column)) None
+    (and_from (is_side_in_digits row) (is_side_in_digits column) h g)
+
 point_key : (row column : List ℕ) → is_side_in_digits row ≡ true → is_side_in_digits column ≡ true
     → key_of (point_bytes row column) ≡ Some (Point (digits_value 10 row) (digits_value 10 column))
-point_key row column h g =
-    let fields = first_field row column (side_is row h).digits ∙ ap (λ fields. row ∷ fields) (last_field column (side_is column g).digits) in
-    sides_at_end (0x37 ∷ 0x3B ∷ (row ++ 0x3B ∷ column))
-    ∙ ap (λ fields. sides_key ((0x37 ∷ []) ∷ fields)) fields
-    ∙ cond-true (is_side_in_digits row && is_side_in_digits column) (key_by_kind (0x37 ∷ []) (digits_value 10 row) (digits_value 10 column)) None
-    (and_from (is_side_in_digits row) (is_side_in_digits column) h g)
+point_key row column h g = sides_at_end (0x37 ∷ 0x3B ∷ (row ++ 0x3B ∷ column)) ∙ sides_by 0x37 row column h g
+
+drag_key : (row column : List ℕ) → is_side_in_digits row ≡ true → is_side_in_digits column ≡ true
+    → key_of (drag_bytes row column) ≡ Some (Drag (digits_value 10 row) (digits_value 10 column))
+drag_key row column h g = sides_at_end (0x39 ∷ 0x3B ∷ (row ++ 0x3B ∷ column)) ∙ sides_by 0x39 row column h g
 
 abbrev decoded : List Key → Decoding
 decoded keys = record { keys = keys; rest = [] }
@@ -95,6 +106,12 @@ point_decodes : (row column : List ℕ) → is_side_in_digits row ≡ true → i
 point_decodes row column h g =
     item_decoding (point_bytes row column) (point_item row column (side_is row h).digits (side_is column g).digits)
     ∙ ap (λ key. decoded (option_to_list key)) (point_key row column h g)
+
+drag_decodes : (row column : List ℕ) → is_side_in_digits row ≡ true → is_side_in_digits column ≡ true
+    → decoding (drag_bytes row column) ≡ decoded (Drag (digits_value 10 row) (digits_value 10 column) ∷ [])
+drag_decodes row column h g =
+    item_decoding (drag_bytes row column) (drag_item row column (side_is row h).digits (side_is column g).digits)
+    ∙ ap (λ key. decoded (option_to_list key)) (drag_key row column h g)
 
 -- ---- what goes out, whatever waits in the decoder
 
@@ -111,9 +128,10 @@ nothing_sent true rest w free = subst (IsSent []) (sym (anew rest 0x18 [] refl w
 nothing_sent false rest w free =
     subst (IsSent []) (sym (ap decoding (append-nil rest) ∙ waits_decoding rest w)) (record { are = refl; free = free refl })
 
-abbrev chosen_keys : Bool → Bool → Bool → Bool → Key → List Key
-chosen_keys a b c d point =
-    cond a (point ∷ []) (cond b (Select ∷ point ∷ []) (cond c (LineUp ∷ LineUp ∷ LineUp ∷ []) (cond d (LineDown ∷ LineDown ∷ LineDown ∷ []) [])))
+abbrev chosen_keys : Bool → Bool → Bool → Bool → Bool → ℕ → ℕ → List Key
+chosen_keys a b c d e row column =
+    cond a (Point row column ∷ [])
+    (cond b (Select ∷ Point row column ∷ []) (cond c (Drag row column ∷ []) (cond d (ScrollBack ∷ []) (cond e (ScrollOn ∷ []) []))))
 
 -- the decoder, and the cell
 module _ (rest row column : List ℕ) (waits : editor.fate rest ≡ Waits) (is_row : is_side_in_digits row ≡ true) (is_column : is_side_in_digits column ≡ true) where
@@ -126,19 +144,22 @@ module _ (rest row column : List ℕ) (waits : editor.fate rest ≡ Waits) (is_r
   select_sent : decoding (csi (codes "81~") ++ point_bytes row column) ≡ decoded (Select ∷ point ∷ [])
   select_sent = in_pieces (csi (codes "81~")) (point_bytes row column) ∙ ap (λ (d : Decoding). record { keys = Select ∷ d.keys; rest = d.rest }) point_sent
 
-  chosen_sent : (is_open a b c d : Bool) → (is_open ≡ false → IsFree rest)
-      → IsSent (chosen_keys a b c d point) (decoding (rest ++ apart_from is_open (chosen a b c d row column)))
-  chosen_sent is_open true b c d free = sent is_open rest (point_bytes row column) (point ∷ []) refl point_sent waits free
-  chosen_sent is_open false true c d free = sent is_open rest (csi (codes "81~") ++ point_bytes row column) (Select ∷ point ∷ []) refl select_sent waits free
-  chosen_sent is_open false false true d free = sent is_open rest wheel_up (LineUp ∷ LineUp ∷ LineUp ∷ []) refl refl waits free
-  chosen_sent is_open false false false true free = sent is_open rest wheel_down (LineDown ∷ LineDown ∷ LineDown ∷ []) refl refl waits free
-  chosen_sent is_open false false false false free = nothing_sent is_open rest waits free
+  chosen_sent : (is_open a b c d e : Bool) → (is_open ≡ false → IsFree rest)
+      → IsSent (chosen_keys a b c d e (digits_value 10 row) (digits_value 10 column)) (decoding (rest ++ apart_from is_open (chosen a b c d e row column)))
+  chosen_sent is_open true b c d e free = sent is_open rest (point_bytes row column) (point ∷ []) refl point_sent waits free
+  chosen_sent is_open false true c d e free = sent is_open rest (csi (codes "81~") ++ point_bytes row column) (Select ∷ point ∷ []) refl select_sent waits free
+  chosen_sent is_open false false true d e free =
+      sent is_open rest (drag_bytes row column) (Drag (digits_value 10 row) (digits_value 10 column) ∷ []) refl (drag_decodes row column is_row is_column) waits free
+  chosen_sent is_open false false false true e free = sent is_open rest wheel_up (ScrollBack ∷ []) refl refl waits free
+  chosen_sent is_open false false false false true free = sent is_open rest wheel_down (ScrollOn ∷ []) refl refl waits free
+  chosen_sent is_open false false false false false free = nothing_sent is_open rest waits free
 
   reported_sent : (is_open is_release : Bool) (button : ℕ) → (is_open ≡ false → IsFree rest)
-      → IsSent (cond is_release [] (pressed_keys button point)) (decoding (rest ++ apart_from is_open (cond is_release [] (pressed button row column))))
+      → IsSent (cond is_release [] (pressed_keys button (digits_value 10 row) (digits_value 10 column)))
+      (decoding (rest ++ apart_from is_open (cond is_release [] (pressed button row column))))
   reported_sent is_open true button free = nothing_sent is_open rest waits free
   reported_sent is_open false button free =
-      chosen_sent is_open (nat_eq button 0) ((nat_eq button 4 || nat_eq button 32) || nat_eq button 36) (nat_eq button 64) (nat_eq button 65) free
+      chosen_sent is_open (nat_eq button 0) (nat_eq button 4) (nat_eq button 32 || nat_eq button 36) (nat_eq button 64) (nat_eq button 65) free
 
 pub report_sent : (is_open : Bool) (rest : List ℕ) (r : Report) → is_side_in_digits r.row ≡ true → is_side_in_digits r.column ≡ true
     → editor.fate rest ≡ Waits → (is_open ≡ false → IsFree rest) → IsSent (keys_of_report r) (decoding (rest ++ apart_from is_open (reported r)))

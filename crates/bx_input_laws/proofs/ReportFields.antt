@@ -11,7 +11,7 @@ use Rattle.std.proofs.lemmas.List.Splits.{join_with_byte-slice_split}
 use Rattle.std.proofs.lemmas.Option.{cond_some}
 use Rattle.bx_keys.specs.Keys.{is_number, is_side_in_digits, final_byte, before_final}
 use Rattle.bx_input.specs.Filter.{apart_from}
-use Rattle.bx_input.specs.Mouse.{Report, is_number_byte, begins_report, report_of_numbers, report_of, point_bytes, select_bytes, wheel_up, wheel_down, pressed, reported}
+use Rattle.bx_input.specs.Mouse.{Report, is_number_byte, begins_report, report_of_numbers, report_of, point_bytes, drag_bytes, select_bytes, wheel_up, wheel_down, pressed, reported}
 use Rattle.bx_input.proofs.Reports.{semicolon, number_is, side_is}
 
 pub record HasNumbers (ns : List ℕ) (r : Report) : Type 0 where
@@ -102,29 +102,34 @@ last_apart ps l =
 pub point_len : (row column : List ℕ) → length (point_bytes row column) ≡ length row + length column + 6
 point_len row column = omega (arith, length-append (row ++ 0x3B ∷ column) (0x74 ∷ []), length-append row (0x3B ∷ column))
 
--- what a button gives, by the tests of its number
-abbrev pub chosen : Bool → Bool → Bool → Bool → List ℕ → List ℕ → List ℕ
-chosen a b c d row column = cond a (point_bytes row column) (cond b (select_bytes row column) (cond c wheel_up (cond d wheel_down [])))
+pub drag_len : (row column : List ℕ) → length (drag_bytes row column) ≡ length row + length column + 6
+drag_len row column = omega (arith, length-append (row ++ 0x3B ∷ column) (0x74 ∷ []), length-append row (0x3B ∷ column))
 
-chosen_fits : (is_open a b c d : Bool) (row column : List ℕ) → 2 ≤ length row + length column
-    → 3 * length (apart_from is_open (chosen a b c d row column)) ≤ 5 * (7 + (length row + length column))
-chosen_fits true true b c d row column l = omega (arith, l, point_len row column)
-chosen_fits true false true c d row column l = omega (arith, l, point_len row column)
-chosen_fits true false false true d row column l = omega (arith, l)
-chosen_fits true false false false true row column l = omega (arith, l)
-chosen_fits true false false false false row column l = omega (arith, l)
-chosen_fits false true b c d row column l = omega (arith, l, point_len row column)
-chosen_fits false false true c d row column l = omega (arith, l, point_len row column)
-chosen_fits false false false true d row column l = omega (arith, l)
-chosen_fits false false false false true row column l = omega (arith, l)
-chosen_fits false false false false false row column l = omega (arith, l)
+-- what a button gives, by the tests of its number
+abbrev pub chosen : Bool → Bool → Bool → Bool → Bool → List ℕ → List ℕ → List ℕ
+chosen a b c d e row column = cond a (point_bytes row column) (cond b (select_bytes row column) (cond c (drag_bytes row column) (cond d wheel_up (cond e wheel_down []))))
+
+chosen_fits : (is_open a b c d e : Bool) (row column : List ℕ) → 2 ≤ length row + length column
+    → 3 * length (apart_from is_open (chosen a b c d e row column)) ≤ 5 * (7 + (length row + length column))
+chosen_fits true true b c d e row column l = omega (arith, l, point_len row column)
+chosen_fits true false true c d e row column l = omega (arith, l, point_len row column)
+chosen_fits true false false true d e row column l = omega (arith, l, drag_len row column)
+chosen_fits true false false false true e row column l = omega (arith, l)
+chosen_fits true false false false false true row column l = omega (arith, l)
+chosen_fits true false false false false false row column l = omega (arith, l)
+chosen_fits false true b c d e row column l = omega (arith, l, point_len row column)
+chosen_fits false false true c d e row column l = omega (arith, l, point_len row column)
+chosen_fits false false false true d e row column l = omega (arith, l, drag_len row column)
+chosen_fits false false false false true e row column l = omega (arith, l)
+chosen_fits false false false false false true row column l = omega (arith, l)
+chosen_fits false false false false false false row column l = omega (arith, l)
 
 release_fits : (is_open is_release : Bool) (button : ℕ) (row column : List ℕ) → 2 ≤ length row + length column
     → 3 * length (apart_from is_open (cond is_release [] (pressed button row column))) ≤ 5 * (7 + (length row + length column))
 release_fits true true button row column l = omega (arith, l)
 release_fits false true button row column l = omega (arith, l)
 release_fits is_open false button row column l =
-    chosen_fits is_open (nat_eq button 0) ((nat_eq button 4 || nat_eq button 32) || nat_eq button 36) (nat_eq button 64) (nat_eq button 65) row column l
+    chosen_fits is_open (nat_eq button 0) (nat_eq button 4) (nat_eq button 32 || nat_eq button 36) (nat_eq button 64) (nat_eq button 65) row column l
 
 -- three bytes that go out count for at most five thirds of one that came
 pub report_fits : (is_open : Bool) (ps : List ℕ) (r : Report) → report_of ps ≡ Some r → 3 * length (apart_from is_open (reported r)) ≤ 5 * (3 + length ps)

@@ -6,7 +6,7 @@ use Rattle.std.specs.Str.Parse.{digits_value}
 use Rattle.bx_bytes.specs.Pattern.{Piece, matches_any}
 use Rattle.bx_keys.specs.Keys.{decoding}
 use Rattle.bx_keys.specs.declared.key.Key.{Key}
-use Rattle.bx_keys.specs.declared.key.Key.TheVariants.{Insert, LineUp, LineDown, PasteStart, PasteEnd, Point, Select}
+use Rattle.bx_keys.specs.declared.key.Key.TheVariants.{Insert, PasteStart, PasteEnd, Point, Drag, Select, ScrollBack, ScrollOn}
 use Rattle.bx_input.specs.Mouse.{Report, opens_report, report_of}
 use Rattle.bx_input.specs.Table.{Row, csi, keys_of, byte_rows, row_of, sequences, exact, paste_start, paste_end, start_told, end_told}
 use Rattle.bx_input.specs.Paste.{is_control_byte, kept_characters, pasted}
@@ -26,18 +26,19 @@ is_report bs = opens_report bs && is_some (report_of (drop 3 bs))
 abbrev pub HasNoReport : List ℕ → Type 0
 HasNoReport bs = (front middle back : List ℕ) → bs ≡ front ++ (middle ++ back) → is_report middle ≡ false
 
--- the editor's keys for a press of a button, where `point` is the key of its cell
-abbrev pub pressed_keys : ℕ → Key → List Key
-pressed_keys button point =
-    if button == 0 then point ∷ []
-    else if (button == 4 || button == 32) || button == 36 then Select ∷ point ∷ []
-    else if button == 64 then LineUp ∷ LineUp ∷ LineUp ∷ []
-    else if button == 65 then LineDown ∷ LineDown ∷ LineDown ∷ []
+-- the editor's keys for a press of a button or a move in the cell of this row and column
+abbrev pub pressed_keys : ℕ → ℕ → ℕ → List Key
+pressed_keys button row column =
+    if button == 0 then Point row column ∷ []
+    else if button == 4 then Select ∷ Point row column ∷ []
+    else if button == 32 || button == 36 then Drag row column ∷ []
+    else if button == 64 then ScrollBack ∷ []
+    else if button == 65 then ScrollOn ∷ []
     else []
 
 -- the editor's keys for a mouse report
 abbrev pub keys_of_report : Report → List Key
-keys_of_report r = if r.is_release then [] else pressed_keys r.button (Point (digits_value 10 r.row) (digits_value 10 r.column))
+keys_of_report r = if r.is_release then [] else pressed_keys r.button (digits_value 10 r.row) (digits_value 10 r.column)
 
 -- no part of these bytes matches one of the patterns
 abbrev pub HasNone : List (List Piece) → List ℕ → Type 0
@@ -149,9 +150,9 @@ module _ (erases_by_delete : Bool) where
     pub input_ends : (waiting : List ℕ) (after_return : Bool) → IsText (at_end (Within waiting after_return))
     pub whole : (text : List ℕ) → IsText (pasted text)
 
-  -- output is at most five times as long as the input: a key of one byte becomes five bytes
-  abbrev pub GrowsFiveTimes : Type 0
-  GrowsFiveTimes = (bs : List ℕ) → length (filtered bs) ≤ 5 * length bs
+  -- output is at most six times as long as the input: a key of one byte becomes at most six bytes
+  abbrev pub GrowsSixTimes : Type 0
+  GrowsSixTimes = (bs : List ℕ) → length (filtered bs) ≤ 6 * length bs
 
   -- without key bytes, output is at most 10/3 as long as the input: three bytes become at most ten
   abbrev pub GrowsByTenThirds : Type 0

@@ -4,7 +4,7 @@
 ghost use Rattle.std.specs.Prelude.{Bool};
 ghost use Rattle.std.specs.List.{AllByRecursion};
 ghost use Rattle.bx_input_laws.specs.Hearing.{AreHeardInOrder};
-ghost use Rattle.bx_input_laws.specs.Laws.{AddsKeys, AddsReportKeys, BecomesRow, ComesInPieces, GrowsByTenThirds, GrowsByTwoThirds, GrowsFiveTimes, HasKeys, OthersPass};
+ghost use Rattle.bx_input_laws.specs.Laws.{AddsKeys, AddsReportKeys, BecomesRow, ComesInPieces, GrowsByTenThirds, GrowsByTwoThirds, GrowsSixTimes, HasKeys, OthersPass};
 ghost use Rattle.bx_input_laws.specs.Laws.{PastesAreClean, WaitsForFourteen};
 ghost use Rattle.bx_input_laws.specs.Laws.{PastesInsert, PastesKeepCharacters, PastesText};
 ghost use Rattle.bx_input.specs.Table.{rows};
@@ -35,10 +35,10 @@ pub fn others_pass()
     ensures { (erases_by_delete : Bool) → OthersPass erases_by_delete }
 {}
 
-/// Output is at most five times as long as the input, at most ten thirds as long if no key comes as a single byte, and at most
+/// Output is at most six times as long as the input, at most ten thirds as long if no key comes as a single byte, and at most
 /// two thirds longer if no key comes as one or two bytes, or selects by three or four.
-pub fn grows_five_times()
-    ensures five_times { (erases_by_delete : Bool) → GrowsFiveTimes erases_by_delete }
+pub fn grows_six_times()
+    ensures six_times { (erases_by_delete : Bool) → GrowsSixTimes erases_by_delete }
     ensures ten_thirds { (erases_by_delete : Bool) → GrowsByTenThirds erases_by_delete }
     ensures two_thirds { (erases_by_delete : Bool) → GrowsByTwoThirds erases_by_delete }
 {}
@@ -65,7 +65,7 @@ pub fn rows_add_keys()
 {}
 
 /// After any input that ends outside a paste, a mouse report gives the editor the keys that it means, and no other: none, the
-/// cell that is pointed at, Select and that cell, or three lines up or down.
+/// cell that is pointed at, Select and that cell, the cell to which the pointer is dragged, or a key of the wheel.
 pub fn reports_add_keys()
     ensures { (erases_by_delete : Bool) → AddsReportKeys erases_by_delete }
 {}

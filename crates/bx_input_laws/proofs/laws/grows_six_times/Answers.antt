@@ -1,9 +1,9 @@
 use Rattle.bx_input_laws.proofs.Growth as growth
 use Rattle.bx_input_laws.proofs.Thirds.{grows_by_two_thirds}
-use Rattle.bx_input_laws.proofs.laws.grows_five_times.Goals as goal
+use Rattle.bx_input_laws.proofs.laws.grows_six_times.Goals as goal
 
-pub returns-clause-five_times : goal.returns-clause-five_times
-returns-clause-five_times c = growth.grows_five_times
+pub returns-clause-six_times : goal.returns-clause-six_times
+returns-clause-six_times c = growth.grows_six_times
 
 pub returns-clause-ten_thirds : goal.returns-clause-ten_thirds
 returns-clause-ten_thirds c = growth.grows_by_ten_thirds
