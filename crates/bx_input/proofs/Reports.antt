@@ -68,7 +68,7 @@ of_last ns b =
 number_no_final : (b : ℕ) → is_number_byte b ≡ true → nat_eq b 0x4D || nat_eq b 0x6D ≡ false
 number_no_final b h = grind (arith, nat_tests)
 
-last_all : (ns : List ℕ) (b : ℕ) → list_all is_number_byte (ns ++ b ∷ []) ≡ true → is_number_byte b ≡ true
+pub last_all : (ns : List ℕ) (b : ℕ) → list_all is_number_byte (ns ++ b ∷ []) ≡ true → is_number_byte b ≡ true
 last_all ns b h =
     let parts = and_parts (list_all is_number_byte ns) (list_all is_number_byte (b ∷ [])) (sym (list_all-append is_number_byte ns (b ∷ [])) ∙ h) in
     (and_parts (is_number_byte b) true parts.1).0
@@ -107,7 +107,7 @@ with_numbers is_release b x y =
     cond (is_number b && (is_side_in_digits x && is_side_in_digits y))
     (Some (record { button = digits_value 10 b; column = x; row = y; is_release = is_release })) None
 
-no_number : (ds : List ℕ) → all_ascii_digits ds ≡ false → is_side_in_digits ds ≡ false
+pub no_number : (ds : List ℕ) → all_ascii_digits ds ≡ false → is_side_in_digits ds ≡ false
 no_number ds e = and_left (is_number ds) _ (and_right _ (all_ascii_digits ds) e)
 
 without : (is_release : Bool) (b x y : List ℕ) → is_number b && (is_side_in_digits x && is_side_in_digits y) ≡ false → with_numbers is_release b x y ≡ None
@@ -126,13 +126,13 @@ not_found : (t : Bool) (n : ℕ) → cond t (Some n) None ≡ None → t ≡ fal
 not_found true n h = absurd (cc h)
 not_found false n h = refl
 
-one_field : (ns : List ℕ) → position semicolon ns ≡ None → slice_split semicolon ns ≡ ns ∷ []
+pub one_field : (ns : List ℕ) → position semicolon ns ≡ None → slice_split semicolon ns ≡ ns ∷ []
 one_field ns h =
     let none = not_found (nat_lt (position_or_len semicolon ns) (length ns)) (position_or_len semicolon ns) h in
     let past : length ns ≤ position_or_len semicolon ns = ltb-false (position_or_len semicolon ns) (length ns) none in
     slice_split_none semicolon ns (All-from_get_or (λ b. semicolon b ≡ false) ns 0 (λ i l. fails_before_first semicolon ns i 0 (omega arith)))
 
-first_field : (ns : List ℕ) (i : ℕ) → position semicolon ns ≡ Some i → slice_split semicolon ns ≡ take i ns ∷ slice_split semicolon (drop (i + 1) ns)
+pub first_field : (ns : List ℕ) (i : ℕ) → position semicolon ns ≡ Some i → slice_split semicolon ns ≡ take i ns ∷ slice_split semicolon (drop (i + 1) ns)
 first_field ns i h =
     let at = cond_some (nat_lt (position_or_len semicolon ns) (length ns)) (position_or_len semicolon ns) i h in
     slice_split_first semicolon ns 0 (ltb-true (position_or_len semicolon ns) (length ns) at.0)

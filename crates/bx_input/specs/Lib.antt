@@ -7,5 +7,6 @@ pub mod Mouse
 pub mod Numbers
 pub mod Paste
 pub mod PasteTail
+pub mod Sizes
 pub mod Table
 pub mod Translating

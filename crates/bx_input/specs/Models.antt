@@ -15,6 +15,9 @@ use Rattle.bx_input.specs.Mouse as mouse
 use Rattle.bx_input.specs.declared.mouse.Report.{Report}
 use Rattle.bx_input.specs.declared.mouse.AfterReport.{AfterReport}
 use Rattle.bx_input.specs.declared.mouse.AfterReport.TheVariants as after_report
+use Rattle.bx_input.specs.Sizes.{size_fate}
+use Rattle.bx_input.specs.declared.sizes.AfterSize.{AfterSize}
+use Rattle.bx_input.specs.declared.sizes.AfterSize.TheVariants as after_size
 use Rattle.bx_input.specs.declared.in_paste.AfterInPaste.{AfterInPaste}
 use Rattle.bx_input.specs.declared.in_paste.AfterInPaste.TheVariants as after_in_paste
 use Rattle.bx_input.specs.declared.output.Output.{Output}
@@ -72,10 +75,15 @@ begun beginning.SingleShiftShifted = 0x1B ∷ 0x4F ∷ codes "1;2"
 abbrev pub begun_report : List ℕ → List ℕ
 begun_report numbers = csi (0x3C ∷ numbers)
 
+-- CSI 8 ; and numbers of a size
+abbrev pub begun_size : List ℕ → List ℕ
+begun_size numbers = csi (0x38 ∷ 0x3B ∷ numbers)
+
 -- the state that the filter's state means
 abbrev pub state_of : FilterState → State
 state_of (state.Outside waiting is_open) = spec.Outside (begun waiting) is_open
 state_of (state.Report numbers is_open) = spec.Outside (begun_report numbers) is_open
+state_of (state.Size numbers is_open) = spec.Outside (begun_size numbers) is_open
 state_of (state.Within waiting after_return) = spec.Within (tail_bytes waiting) after_return
 
 -- the bytes of an output
@@ -93,6 +101,7 @@ Tells erases_by_delete (after.Becomes bytes) read =
     (fate read ≡ Ends) × (becomes_of erases_by_delete read ≡ Some bytes.now) × BeginsByEscape bytes.now
 Tells erases_by_delete (after.Byte byte) read = (fate read ≡ Ends) × (becomes_of erases_by_delete read ≡ Some (byte ∷ [])) × (byte ≢ 0x1B)
 Tells erases_by_delete after.Reports read = (fate read ≡ Waits) × (begun_report [] ≡ read)
+Tells erases_by_delete after.Sizes read = (fate read ≡ Waits) × (begun_size [] ≡ read)
 Tells erases_by_delete after.Pastes read = (fate read ≡ Ends) × (becomes_of erases_by_delete read ≡ None)
 Tells erases_by_delete after.Breaks read = fate read ≡ Breaks
 
@@ -107,6 +116,12 @@ TellsOfReport is_open (after_report.Waits numbers) ps = (report_fate ps ≡ Wait
 TellsOfReport is_open (after_report.Becomes output) ps =
     (report_fate ps ≡ Ends) × (option_map (λ r. apart_from is_open (reported r)) (report_of ps) ≡ Some (bytes_of output))
 TellsOfReport is_open after_report.Breaks ps = report_fate ps ≡ Breaks
+
+-- `AfterSize` tells what the bytes `ps` behind CSI 8 ; are
+abbrev pub TellsOfSize : AfterSize → List ℕ → Type 0
+TellsOfSize (after_size.Waits numbers) ps = (size_fate ps ≡ Waits) × (numbers ≡ ps)
+TellsOfSize after_size.Ends ps = size_fate ps ≡ Ends
+TellsOfSize after_size.Breaks ps = size_fate ps ≡ Breaks
 
 -- `AfterInPaste` tells what the bytes `read` are, within a paste
 abbrev pub TellsInPaste : AfterInPaste → List ℕ → Type 0

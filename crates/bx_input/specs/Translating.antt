@@ -47,9 +47,9 @@ rest_behind rest (b ∷ bs) = rest_behind (head_of (rest_after rest b)) bs
 abbrev pub sent : Translating → List ℕ → Translated
 sent t bs = record { state = record t { rest = rest_behind t.rest bs }; output = bs }
 
--- the sequence of a size's key
+-- the sequences of a size's key and of Fill
 abbrev pub size_bytes : Size → List ℕ
-size_bytes size = csi (codes "8;") ++ (decimal size.rows ++ 0x3B ∷ decimal size.columns) ++ codes "t"
+size_bytes size = csi (codes "8;") ++ (decimal size.rows ++ 0x3B ∷ decimal size.columns) ++ (codes "t" ++ csi (codes "102~"))
 
 -- the sequence of a notice's key
 abbrev pub notice_bytes : ℕ → List ℕ

@@ -43,6 +43,8 @@ pub enum After {
     Byte(u8),
     /// They are CSI <, with which a mouse report begins.
     Reports,
+    /// They are CSI 8;, with which a size of the window begins.
+    Sizes,
     /// They are the start of a paste.
     Pastes,
     /// They begin no known sequence.

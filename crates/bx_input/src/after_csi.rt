@@ -252,6 +252,7 @@ pub fn after_eight(byte: u8) -> After
         b'~' => After::Becomes(b"\x1b[F"),
         b'$' => After::Becomes(b"\x1b[81~\x1b[F"),
         b'^' => After::Becomes(b"\x1b[79~"),
+        b';' => After::Sizes,
         _ => After::Breaks,
     }
 }

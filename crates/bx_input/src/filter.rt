@@ -8,7 +8,7 @@ ghost use Rattle.bx_input.specs.Models.{bytes_of};
 
 use crate::beginning::Beginning;
 use crate::filter_state::FilterState;
-use crate::output::{Output, plain};
+use crate::output::{Output, numbers_alone, plain};
 use crate::step::step;
 use std::marker::Model;
 
@@ -93,12 +93,8 @@ impl Filter {
     {
         let rest = match &self.state {
             FilterState::Outside { waiting, .. } => plain(waiting.bytes(), None),
-            FilterState::Report { numbers, .. } => Output {
-                before: b"\x1b[<",
-                numbers: numbers.copied(),
-                key: b"",
-                byte: None,
-            },
+            FilterState::Report { numbers, .. } => numbers_alone(b"\x1b[<", numbers),
+            FilterState::Size { numbers, .. } => numbers_alone(b"\x1b[8;", numbers),
             FilterState::Within { waiting, .. } => plain(waiting.text(), None),
         };
         *self = Filter::new(self.erases_by_delete);

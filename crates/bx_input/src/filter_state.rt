@@ -23,6 +23,13 @@ pub enum FilterState {
         /// Whether the last byte of a sequence that went out unchanged before is not read yet.
         is_open: bool,
     },
+    /// Outside a paste, behind CSI 8;, with which a size of the window begins.
+    Size {
+        /// The bytes that wait behind it.
+        numbers: Numbers,
+        /// Whether the last byte of a sequence that went out unchanged before is not read yet.
+        is_open: bool,
+    },
     /// Within a paste, right after a CR or not.
     Within {
         /// The bytes that wait.
@@ -43,6 +50,10 @@ impl FilterState {
                 is_open: *is_open,
             },
             FilterState::Report { numbers, is_open } => FilterState::Report {
+                numbers: numbers.copied(),
+                is_open: *is_open,
+            },
+            FilterState::Size { numbers, is_open } => FilterState::Size {
                 numbers: numbers.copied(),
                 is_open: *is_open,
             },

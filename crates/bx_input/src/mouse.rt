@@ -103,7 +103,7 @@ fn report_of_three<'a>(
 }
 
 /// Whether the digits are a row or a column, from 1 to 500.
-fn is_side(digits: &[u8]) -> bool
+pub(crate) fn is_side(digits: &[u8]) -> bool
     ensures { result ≡ keys_are.is_side_in_digits digits.now }
 {
     side(digits).is_some()

@@ -60,6 +60,18 @@ pub(crate) fn apart(is_open: bool, byte: u8) -> Output
     plain(can(is_open), Some(byte))
 }
 
+/// The output of these bytes and numbers alone.
+pub(crate) fn numbers_alone(before: &'static [u8], numbers: &Numbers) -> Output
+    ensures { bytes_of result ≡ before.now ++ numbers.now }
+{
+    Output {
+        before,
+        numbers: numbers.copied(),
+        key: b"",
+        byte: None,
+    }
+}
+
 /// A CAN (18) if a sequence is open.
 pub(crate) fn can(is_open: bool) -> &'static [u8]
     ensures { result.now ≡ if is_open then 0x18 ∷ [] else [] }

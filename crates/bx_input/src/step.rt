@@ -1,11 +1,12 @@
 //! One step of the filter, which turns what a terminal sends for a key into what the editor reads for it: the next state and output for
 //! a byte.
 
-ghost use Rattle.std.specs.Prelude.{◌≡◌, ◌≢◌, ◌||◌, false, not, ◌∷◌, [], ◌++◌, option_to_list};
+ghost use Rattle.std.specs.Prelude.{◌≡◌, ◌≢◌, ◌||◌, false, true, not, ◌∷◌, [], ◌++◌, codes, option_to_list};
 ghost use Rattle.bx_input.specs.Filter as spec;
 ghost use Rattle.bx_input.specs.Filter.{broken, fresh_in_paste, is_empty, paste_step_by, with_front};
 ghost use Rattle.bx_input.specs.Known.{fate};
-ghost use Rattle.bx_input.specs.Models.{begun, begun_report, bytes_of, state_of, Goes};
+ghost use Rattle.bx_input.specs.Models.{begun, begun_report, begun_size, bytes_of, state_of, Goes};
+ghost use Rattle.bx_input.specs.Table.{csi};
 ghost use Rattle.bx_input.specs.PasteTail.{tail_bytes};
 ghost use Rattle.bx_input.specs.Paste.{pasted_byte, pasted_part, paste_fate};
 
@@ -17,6 +18,7 @@ use crate::mouse::{AfterReport, report_after};
 use crate::numbers::Numbers;
 use crate::output::{Output, apart, can, keys, nothing, plain};
 use crate::paste_tail::PasteTail;
+use crate::sizes::{AfterSize, size_after};
 
 /// Outside a paste, with nothing waiting.
 const OUTSIDE: FilterState = FilterState::Outside {
@@ -34,6 +36,9 @@ pub fn step(erases_by_delete: bool, state: &FilterState, byte: u8) -> (FilterSta
         }
         FilterState::Report { numbers, is_open } => {
             in_report(erases_by_delete, numbers, *is_open, byte)
+        }
+        FilterState::Size { numbers, is_open } => {
+            in_size(erases_by_delete, numbers, *is_open, byte)
         }
         FilterState::Within {
             waiting,
@@ -56,6 +61,7 @@ fn outside(
         After::Becomes(bytes) => (OUTSIDE, keys(bytes)),
         After::Byte(byte) => (OUTSIDE, apart(is_open, byte)),
         After::Reports => (begin_report(is_open), nothing()),
+        After::Sizes => (begin_size(is_open), nothing()),
         After::Pastes => (fresh_paste(false), keys(b"\x1b[90~")),
         After::Breaks => break_off(erases_by_delete, waiting, is_open, byte),
     }
@@ -66,6 +72,16 @@ fn begin_report(is_open: bool) -> FilterState
     ensures { state_of result ≡ spec.Outside (begun_report []) is_open }
 {
     FilterState::Report {
+        numbers: Numbers::new(),
+        is_open,
+    }
+}
+
+/// Behind CSI 8;, with no byte.
+fn begin_size(is_open: bool) -> FilterState
+    ensures { state_of result ≡ spec.Outside (begun_size []) is_open }
+{
+    FilterState::Size {
         numbers: Numbers::new(),
         is_open,
     }
@@ -108,6 +124,7 @@ fn behind_escape(
         After::Becomes(key) => (OUTSIDE, escape_and_keys(key)),
         After::Byte(byte) => (OUTSIDE, plain(b"\x1b\x18", Some(byte))),
         After::Reports => (begin_report(true), plain(b"\x1b", None)),
+        After::Sizes => (begin_size(true), plain(b"\x1b", None)),
         After::Pastes => (fresh_paste(false), escape_and_keys(b"\x1b[90~")),
         After::Breaks => pass_on(erases_by_delete, waiting, true, byte),
     }
@@ -164,17 +181,55 @@ fn in_report(
     match report_after(is_open, numbers, byte) {
         AfterReport::Waits(numbers) => (FilterState::Report { numbers, is_open }, nothing()),
         AfterReport::Becomes(output) => (OUTSIDE, output),
-        AfterReport::Breaks => {
-            let next = fresh(erases_by_delete, true, byte);
-            let output = Output {
-                before: b"\x1b[<",
-                numbers: numbers.copied(),
-                key: next.key,
-                byte: next.byte,
-            };
-            (next.state, output)
-        }
+        AfterReport::Breaks => behind_numbers(erases_by_delete, b"\x1b[<", numbers, byte),
     }
+}
+
+/// Reads a byte behind CSI 8; and numbers.
+fn in_size(
+    erases_by_delete: bool,
+    numbers: &Numbers,
+    is_open: bool,
+    byte: u8,
+) -> (FilterState, Output)
+    ensures { Goes result (spec.step erases_by_delete (spec.Outside (begun_size numbers.now) is_open) byte) }
+{
+    match size_after(numbers, byte) {
+        AfterSize::Waits(numbers) => (FilterState::Size { numbers, is_open }, nothing()),
+        AfterSize::Ends => (OUTSIDE, size_and_fill(numbers)),
+        AfterSize::Breaks => behind_numbers(erases_by_delete, b"\x1b[8;", numbers, byte),
+    }
+}
+
+/// The output of a size, and of Fill.
+fn size_and_fill(numbers: &Numbers) -> Output
+    ensures { bytes_of result ≡ begun_size (numbers.now ++ codes "t") ++ csi (codes "102~") }
+{
+    Output {
+        before: b"\x1b[8;",
+        numbers: numbers.copied(),
+        key: b"t\x1b[102~",
+        byte: None,
+    }
+}
+
+/// Passes these bytes and numbers on, and reads the byte afresh.
+fn behind_numbers(
+    erases_by_delete: bool,
+    before: &'static [u8],
+    numbers: &Numbers,
+    byte: u8,
+) -> (FilterState, Output)
+    ensures { Goes result (with_front (before.now ++ numbers.now) (spec.fresh erases_by_delete (fate (byte ∷ [])) true byte)) }
+{
+    let next = fresh(erases_by_delete, true, byte);
+    let output = Output {
+        before,
+        numbers: numbers.copied(),
+        key: next.key,
+        byte: next.byte,
+    };
+    (next.state, output)
 }
 
 /// The state after a byte that is read where none waits, and its output.

@@ -53,7 +53,7 @@ fn read_ahead(decoder: Decoder, bytes: &[u8]) -> Decoder
     ahead
 }
 
-/// Appends the sequence of a size's key.
+/// Appends the sequences of a size's key and of Fill.
 fn append_size(out: &mut Vec<u8>, size: Size) -> Result<(), AllocError>
     ensures { OnOk result (out.new.items ≡ out.old.items ++ spec.size_bytes (spec.size_of size)) }
 {
@@ -61,7 +61,7 @@ fn append_size(out: &mut Vec<u8>, size: Size) -> Result<(), AllocError>
     out.extend_from_slice(Buffer::new().format(size.rows).as_bytes())?;
     out.push(b';')?;
     out.extend_from_slice(Buffer::new().format(size.columns).as_bytes())?;
-    out.push(b't')?;
+    out.extend_from_slice(b"t\x1b[102~")?;
     Ok(())
 }
 

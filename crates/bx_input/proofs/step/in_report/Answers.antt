@@ -1,5 +1,4 @@
-use Rattle.std.proofs.Common.{◌++◌, ap, sym, ◌∙◌}
-use Rattle.std.specs.Prelude.{option_to_list}
+use Rattle.std.proofs.Common.{ap, sym, ◌∙◌}
 use Rattle.bx_input.specs.Filter.{Outside, Step}
 use Rattle.bx_input.specs.Models.{begun_report, bytes_of}
 use Rattle.bx_input.proofs.ReportSteps.{goes_on, ends, breaks}
@@ -21,10 +20,7 @@ returns-in-Becomes c =
 
 pub returns-in-Breaks : goal.returns-in-Breaks
 returns-in-Breaks c =
-    let goes = breaks c.args.erases_by_delete c.args.numbers.now c.args.is_open c.args.byte c.in-Breaks.ensures in
-    let more = c.fresh-next.result.key.now ++ option_to_list c.fresh-next.result.byte in (
-      c.fresh-next.ensures.state ∙ sym (ap (λ (s : Step). s.state) goes),
-      ap (λ ns. begun_report ns ++ more) c.copied.ensures
-          ∙ ap (λ xs. begun_report c.args.numbers.now ++ xs) c.fresh-next.ensures.output
-          ∙ sym (ap (λ (s : Step). s.output) goes),
+    let goes = breaks c.args.erases_by_delete c.args.numbers.now c.args.is_open c.args.byte c.in-Breaks.ensures in (
+      c.behind_numbers.ensures.0 ∙ sym (ap (λ (s : Step). s.state) goes),
+      c.behind_numbers.ensures.1 ∙ sym (ap (λ (s : Step). s.output) goes),
     )
