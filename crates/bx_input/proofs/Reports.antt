@@ -90,7 +90,7 @@ pub breaks_so : (ps : List ℕ) → report_of ps ≡ None → begins_report ps �
 breaks_so ps h n = by_report ps None h ∙ cond-false (begins_report ps) Waits Breaks n
 
 -- a byte that is in no report breaks what has begun
-other_all : (ns : List ℕ) (b : ℕ) → is_number_byte b ≡ false → list_all is_number_byte (ns ++ b ∷ []) ≡ false
+pub other_all : (ns : List ℕ) (b : ℕ) → is_number_byte b ≡ false → list_all is_number_byte (ns ++ b ∷ []) ≡ false
 other_all ns b h =
     list_all-append is_number_byte ns (b ∷ []) ∙ and_right (list_all is_number_byte ns) (list_all is_number_byte (b ∷ [])) (and_left (is_number_byte b) true h)
 

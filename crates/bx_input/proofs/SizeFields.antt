@@ -10,7 +10,7 @@ use Rattle.bx_keys.specs.Keys.{is_side_in_digits, before_final}
 use Rattle.bx_keys.proofs.Sides.{one_or_more}
 use Rattle.bx_input.specs.Mouse.{is_number_byte, begins_report}
 use Rattle.bx_input.specs.Sizes.{are_sides, is_size, size_fate}
-use Rattle.bx_input.proofs.Reports.{semicolon, no_number, one_field, first_field, last_all}
+use Rattle.bx_input.proofs.Reports.{semicolon, no_number, one_field, first_field, last_all, other_all}
 
 -- ---- the last byte
 
@@ -41,6 +41,13 @@ size_ends ps h = by_size ps true h
 
 pub size_breaks : (ps : List ℕ) → is_size ps ≡ false → begins_report ps ≡ false → size_fate ps ≡ Breaks
 size_breaks ps h n = by_size ps false h ∙ cond-false (begins_report ps) Waits Breaks n
+
+-- a byte that is in no size breaks what has begun
+pub size_breaks_other : (ns : List ℕ) (b : ℕ) → is_number_byte b ≡ false → nat_eq b 0x74 ≡ false → size_fate (ns ++ b ∷ []) ≡ Breaks
+size_breaks_other ns b h n =
+    let read : List ℕ = ns ++ b ∷ [] in
+    size_breaks read (of_last ns b ∙ and_left (nat_eq b 0x74) (are_sides (slice_split semicolon ns)) n)
+    (and_right (nat_le (length read) 11) (list_all is_number_byte read) (other_all ns b h))
 
 -- ---- the sides
 

@@ -1,6 +1,6 @@
 -- The editor's decoder behind the filter.
 use Rattle.std.proofs.Common.{◌≡◌, ◌≢◌, ℕ, ◌⊎◌, inl, inr, Bool, true, false, ◌&&◌, cond, List, [], ◌∷◌, ◌++◌, drop, get_or, Option, Some, None}
-use Rattle.std.proofs.Common.{refl, ap, sym, ◌∙◌, append_assoc, subst}
+use Rattle.std.proofs.Common.{refl, ap, sym, ◌∙◌, append_assoc, subst, arith}
 use Rattle.std.specs.Prelude.{find}
 use Rattle.std.specs.List.{AllByRecursion, list_all}
 use Rattle.std.specs.Str.{bytes_eq}
@@ -10,7 +10,7 @@ use Rattle.std.proofs.lemmas.Slice.Eq.{bytes_eq-Decides}
 use Rattle.bx_bytes.specs.Pattern.{is_within}
 use Rattle.bx_bytes.specs.declared.fate.Fate.{Fate}
 use Rattle.bx_bytes.specs.declared.fate.Fate.TheVariants.{Waits, Ends, Breaks}
-use Rattle.bx_keys.specs.Keys.{Decoding, decoding, rest_after}
+use Rattle.bx_keys.specs.Keys.{Decoding, decoding, rest_after, before_final}
 use Rattle.bx_keys.specs.Waiting as editor
 use Rattle.bx_keys.specs.declared.key.Key.{Key}
 use Rattle.bx_keys.specs.declared.key.Key.TheVariants.{PasteStart, PasteEnd}
@@ -18,6 +18,7 @@ use Rattle.bx_keys.proofs.Cuts.{in_pieces, rest_waits}
 use Rattle.bx_keys.proofs.Feeding.{waits_decoding, feeds_waiting, feeds_end, feeds_break, feeds_alone}
 use Rattle.bx_input.specs.Known.{fate, becomes_of}
 use Rattle.bx_input.specs.Mouse.{reported}
+use Rattle.bx_input.specs.Sizes.{sized}
 use Rattle.bx_input.specs.Table.{Row, keys_of, paste_start, paste_end, start_told, end_told, rows, row_of}
 use Rattle.bx_input.specs.Paste.{pasted, paste_fate}
 use Rattle.bx_input.specs.Filter.{State, Outside, Within, Step, step_to, ended_in_paste, paste_step_by, fresh_in_paste, ended, start}
@@ -30,12 +31,14 @@ use Rattle.bx_input_laws.proofs.Decoding.{text_not_escape}
 use Rattle.bx_input_laws.proofs.Growth.{found}
 use Rattle.bx_input_laws.proofs.Inserting.{utf8_inserts}
 use Rattle.bx_input_laws.proofs.Keys.{rows_have_keys}
-use Rattle.bx_input_laws.proofs.Known.{IsKnown, ReportIs, RowIs, StartIs, known_ends, known_breaks_behind, two_escapes}
+use Rattle.bx_input_laws.proofs.Known.{IsKnown, ReportIs, RowIs, StartIs, SizeIs, known_ends, known_breaks_behind, two_escapes}
 use Rattle.bx_input.proofs.Rows.{is_open_after}
 use Rattle.bx_input_laws.proofs.Passing.{rows_become}
 use Rattle.bx_input_laws.proofs.Pastes.{pastes_text}
 use Rattle.bx_input_laws.proofs.ReportDecoding.{report_sent}
-use Rattle.bx_input_laws.proofs.ReportFields.{has_numbers}
+use Rattle.bx_input_laws.proofs.ReportFields.{has_numbers, last_apart}
+use Rattle.bx_input_laws.proofs.SizeDecoding.{told_sides, size_sent}
+use Rattle.bx_input_laws.proofs.SizeSides.{has_sides}
 use Rattle.bx_input_laws.proofs.States.{IsSound, step_sound}
 
 -- the bytes that wait in the decoder after these bytes more
@@ -177,6 +180,13 @@ module _ (by_delete : Bool) where
   known_follows is_open read o rest (StartIs same e) w free =
       let follows : Follows (ended is_open None).state (left rest (ended is_open None).output) = subst IsFree (sym (start_leaves rest w)) nothing_free in
       subst (λ o. Follows (ended is_open o).state (left rest (ended is_open o).output)) (sym e) follows
+  known_follows is_open read o rest (SizeIs opens h e) w free =
+      let is = has_sides (drop 4 read) h in
+      let same : drop 4 read ≡ told_sides is.rows is.columns =
+      sym (last_apart (drop 4 read) (omega (arith, is.at_least))) ∙ ap (λ b. before_final (drop 4 read) ++ b ∷ []) is.last ∙ ap (λ ns. ns ++ 0x74 ∷ []) (sym is.joined) in
+      let follows : Follows (ended is_open (Some (sized (told_sides is.rows is.columns)))).state (left rest (ended is_open (Some (sized (told_sides is.rows is.columns)))).output) =
+      free_follows (left rest (apart_from is_open (sized (told_sides is.rows is.columns)))) (size_sent is_open rest is.rows is.columns is.is_rows is.is_columns w free).free in
+      subst (λ o. Follows (ended is_open o).state (left rest (ended is_open o).output)) (sym (e ∙ ap (λ ps. Some (sized ps)) same)) follows
 
   ended_follows : (is_open : Bool) (read rest : List ℕ) → fate read ≡ Ends → editor.fate rest ≡ Waits → (is_open ≡ false → IsFree rest)
       → Follows (ended is_open (becomes_of by_delete read)).state (left rest (ended is_open (becomes_of by_delete read)).output)

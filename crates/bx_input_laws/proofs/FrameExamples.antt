@@ -5,12 +5,12 @@ use Rattle.std.specs.Fmt.{digits}
 use Rattle.bx_input.specs.Translating.{begun, notice_bytes, size_bytes}
 use Rattle.bx_input.specs.Heard.{heard}
 use Rattle.bx_keys.specs.Keys.{decoding}
-use Rattle.bx_keys.specs.declared.key.Key.TheVariants.{Notice, Size}
+use Rattle.bx_keys.specs.declared.key.Key.TheVariants.{Fill, Notice, Size}
 use Rattle.bx_keys.specs.declared.notice.Notice.TheVariants.{NoSpace, FolderGone, NotPermitted, ReadOnly, Unkept, KeptAgain, Recovered, RecoveredAside, InPlace}
 
 -- the Hebrew letter Alef has two bytes; a size that arrives between them goes in after the letter
 pub a_size_cuts_no_letter : heard (codes "b\0\u{1}" ++ 0xD7 ∷ (codes "z\0\u{4}\0\u{18}\0P" ++ (codes "b\0\u{1}" ++ 0x90 ∷ []))) (begun false)
-    ≡ 0xD7 ∷ 0x90 ∷ codes "\u{1b}[8;24;80t"
+    ≡ 0xD7 ∷ 0x90 ∷ codes "\u{1b}[8;24;80t\u{1b}[102~"
 unfolding digits
 a_size_cuts_no_letter = refl
 
@@ -29,7 +29,7 @@ pub a_broken_frame_says_nothing : heard (codes "b\0\u{1}xb\0\u{2}y") (begun fals
 a_broken_frame_says_nothing = refl
 
 -- the editor's keys of what sizes and notices become
-pub a_size_is_a_key : (decoding (size_bytes (record { rows = 24; columns = 80 }))).keys ≡ Size 24 80 ∷ []
+pub a_size_is_a_key : (decoding (size_bytes (record { rows = 24; columns = 80 }))).keys ≡ Size 24 80 ∷ Fill ∷ []
 unfolding digits
 a_size_is_a_key = refl
 

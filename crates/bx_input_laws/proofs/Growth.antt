@@ -12,13 +12,15 @@ use Rattle.bx_bytes.specs.declared.fate.Fate.{Fate}
 use Rattle.bx_bytes.specs.declared.fate.Fate.TheVariants.{Waits, Ends, Breaks}
 use Rattle.bx_input.specs.Known.{fate, becomes_of}
 use Rattle.bx_input.specs.Mouse.{reported}
+use Rattle.bx_input.specs.Sizes.{sized}
 use Rattle.bx_input.specs.Table.{Row, paste_end, rows, row_of}
 use Rattle.bx_input.specs.Paste.{pasted_byte, pasted_part, paste_fate}
 use Rattle.bx_input.specs.Filter.{State, Outside, Within, Step, ended_in_paste, paste_step_by, fresh_in_paste, ended, start, at_end, apart_from, fresh, broken}
 use Rattle.bx_input.specs.Filter.{has_two_escapes, plain_step, behind_escape, step_by, step, run, filtered}
 use Rattle.bx_input_laws.specs.Laws.{waiting_in, is_key_byte, GrowsSixTimes, GrowsByTenThirds}
-use Rattle.bx_input_laws.proofs.Known.{IsKnown, ReportIs, RowIs, StartIs, known_ends}
+use Rattle.bx_input_laws.proofs.Known.{IsKnown, ReportIs, RowIs, StartIs, SizeIs, known_ends}
 use Rattle.bx_input_laws.proofs.ReportFields.{has_lengths, report_fits}
+use Rattle.bx_input_laws.proofs.SizeSides.{has_sides, sized_len}
 use Rattle.bx_input.proofs.Rows.{is_open_after}
 
 -- Three bytes that go out count for ten thirds of one that came, or waits. A key of one byte counts for eight thirds more.
@@ -122,6 +124,10 @@ module _ (by_delete : Bool) where
       subst (λ o. weight (ended is_open o) ≤ 10 * length read + last_extra read) (sym e) fits
   ended_by is_open read o (StartIs same e) =
       let fits : weight (ended is_open None) ≤ 10 * length read + last_extra read = (let six : 6 ≡ length read = ap length same in omega (arith, six)) in
+      subst (λ o. weight (ended is_open o) ≤ 10 * length read + last_extra read) (sym e) fits
+  ended_by is_open read o (SizeIs opens h e) =
+      let fits : weight (ended is_open (Some (sized (drop 4 read)))) ≤ 10 * length read + last_extra read =
+      omega (arith, sized_len is_open (drop 4 read), (has_sides (drop 4 read) h).at_least, length-drop 4 read) in
       subst (λ o. weight (ended is_open o) ≤ 10 * length read + last_extra read) (sym e) fits
 
   ended_weighs : (is_open : Bool) (read : List ℕ) → fate read ≡ Ends → weight (ended is_open (becomes_of by_delete read)) ≤ 10 * length read + last_extra read

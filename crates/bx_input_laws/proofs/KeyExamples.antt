@@ -5,7 +5,7 @@ use Rattle.bx_keys.specs.Keys.{decoding}
 use Rattle.bx_keys.specs.declared.key.Key.{Key}
 use Rattle.bx_keys.specs.declared.key.Key.TheVariants.{Insert, Mark, Copy, Cut, Put, Find, FindBack, WordLeft, WordRight, TextStart, TextEnd, Help, Notice}
 use Rattle.bx_keys.specs.declared.key.Key.TheVariants.{EraseWord, DeleteWord, FindNext, Cancel, ErasePoint, NewLine, LineUp, LineDown, PageBack, PageOn, Right, Left, RowHome, RowEnd, Delete}
-use Rattle.bx_keys.specs.declared.key.Key.TheVariants.{Back, Forward, Quit, SelectAll, FindPrevious, SaveAs}
+use Rattle.bx_keys.specs.declared.key.Key.TheVariants.{Back, Forward, Quit, SelectAll, FindPrevious, SaveAs, Size, Fill}
 use Rattle.bx_keys.specs.declared.key.Key.TheVariants.{Select, UndoRun, RedoRun, GoTo, Replace, Name, Tell, PasteStart, PasteEnd}
 use Rattle.bx_keys.specs.declared.notice.Notice.TheVariants.{NoSpace, InPlace}
 use Rattle.bx_input.specs.Table.{Row, rows, paste_start, paste_end}
@@ -164,6 +164,22 @@ no_function_keys = refl
 -- keys with Shift that select nothing
 pub nothing_selected : filtered (codes "\u{1b}[1;6A\u{1b}[1;2P\u{1b}[e\u{1b}[7@\u{1b}[5$") ≡ codes "\u{1b}[1;6A\u{1b}[1;2P\u{1b}[e\u{1b}[7@\u{1b}[5$"
 nothing_selected = refl
+
+-- Fill follows a size of the window
+pub sizes_fill : filtered (codes "\u{1b}[8;10;20t\u{1b}[8;010;020t") ≡ codes "\u{1b}[8;10;20t\u{1b}[102~\u{1b}[8;010;020t\u{1b}[102~"
+sizes_fill = refl
+
+abbrev no_sizes : List ℕ
+no_sizes = codes "\u{1b}[8;0;20t\u{1b}[8;501;20t\u{1b}[8;10;0t\u{1b}[8;10t\u{1b}[8;10;20;1t\u{1b}[8;1000;20t\u{1b}[8;10;20T\u{1b}[08;10;20t\u{1b}[8;10;20 t"
+
+pub no_sizes_go_through : filtered no_sizes ≡ no_sizes
+no_sizes_go_through = refl
+
+pub a_size_behind_broken : keys (codes "\u{1b}[1;5\u{1b}[8;2;3t\u{1b}[8;10\u{1b}[1;3C\u{1b}\u{1b}[8;2;3t") ≡ Size 2 3 ∷ Fill ∷ Forward ∷ Size 2 3 ∷ Fill ∷ []
+a_size_behind_broken = refl
+
+pub a_size_in_a_paste : filtered (paste_start ++ (codes "\u{1b}[8;10;20t" ++ paste_end)) ≡ codes "\u{1b}[90~[8;10;20t\u{1b}[91~"
+a_size_in_a_paste = refl
 
 -- a paste only inserts, and behind it CTRL-W is a key
 pub in_a_paste : filtered (paste_start ++ (codes "a\u{17}\u{3}\u{18}" ++ (0x00 ∷ codes "b\r\nc" ++ paste_end)) ++ 0x17 ∷ [])

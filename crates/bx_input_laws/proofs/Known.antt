@@ -1,33 +1,57 @@
--- What known bytes are: a row of the table, a paste's start, or a mouse report.
-use Rattle.std.proofs.Common.{◌≡◌, ℕ, ◌≤◌, inl, inr, ◌⊎◌, Bool, true, false, ◌&&◌, ◌||◌, nat_eq, nat_le, List, [], ◌∷◌, ◌++◌, length, map, drop}
+-- What known bytes are: a row of the table, a paste's start, a mouse report, or a size.
+use Rattle.std.proofs.Common.{◌≡◌, ℕ, ◌≤◌, inl, inr, ◌⊎◌, Bool, true, false, ◌&&◌, ◌||◌, cond, nat_eq, nat_le, List, [], ◌∷◌, ◌++◌, length, map, drop}
 use Rattle.std.proofs.Common.{Option, Some, None, refl, ap, sym, ◌∙◌, arith}
 use Rattle.std.specs.Prelude.{find, is_some, option_map}
+use Rattle.std.specs.Char.{is_ascii_digit}
 use Rattle.std.specs.List.{list_all}
 use Rattle.std.specs.Str.{bytes_eq}
 use Rattle.std.proofs.lemmas.Bool.{both_ways, cases_Bool, and_parts, and_right, or_cases, or_from, or_parts, cond-true, cond-false, leb-true}
 use Rattle.std.proofs.lemmas.Bool.Decides.{nat_tests}
 use Rattle.std.proofs.lemmas.Slice.Eq.{bytes_eq-Decides}
 use Rattle.bx_bytes.specs.Pattern.{fate_in, Piece, is_within, matches, matches_any}
+use Rattle.bx_bytes.specs.declared.fate.Fate.{Fate}
 use Rattle.bx_bytes.specs.declared.fate.Fate.TheVariants.{Waits, Ends, Breaks}
 use Rattle.bx_input.specs.Filter.{has_two_escapes}
 use Rattle.bx_input.specs.Known.{fate, becomes_of}
 use Rattle.bx_input.specs.Mouse.{Report, opens_report, is_number_byte, begins_report, report_of, report_fate, reported}
+use Rattle.bx_input.specs.Sizes.{opens_size, is_size, size_fate, sized}
 use Rattle.bx_input.specs.Table.{Row, sequences, exact, paste_start, rows, row_of}
 use Rattle.bx_input.proofs.Reports.{breaks_other}
+use Rattle.bx_input.proofs.SizeFields.{size_breaks_other}
 use Rattle.bx_input_laws.proofs.Firsts.{IsBegun, begun_by, whole_by, waits_says, ends_says, lacks_after_first, breaks_at, lacks_behind, breaks_behind}
 
--- ---- the fate, by whether the bytes begin with CSI <
+-- ---- the fate, by whether the bytes begin with CSI <, or with CSI 8 ;
 
-by_table : (bs : List ℕ) → opens_report bs ≡ false → fate bs ≡ fate_in sequences bs
-by_table bs h = cond-false (opens_report bs) (report_fate (drop 3 bs)) (fate_in sequences bs) h
+abbrev other_fate : List ℕ → Fate
+other_fate bs = cond (opens_size bs) (size_fate (drop 4 bs)) (fate_in sequences bs)
+
+by_table : (bs : List ℕ) → opens_report bs ≡ false → opens_size bs ≡ false → fate bs ≡ fate_in sequences bs
+by_table bs h g =
+    cond-false (opens_report bs) (report_fate (drop 3 bs)) (other_fate bs) h ∙ cond-false (opens_size bs) (size_fate (drop 4 bs)) (fate_in sequences bs) g
 
 by_report : (bs : List ℕ) → opens_report bs ≡ true → fate bs ≡ report_fate (drop 3 bs)
-by_report bs h = cond-true (opens_report bs) (report_fate (drop 3 bs)) (fate_in sequences bs) h
+by_report bs h = cond-true (opens_report bs) (report_fate (drop 3 bs)) (other_fate bs) h
+
+no_report_then : (bs : List ℕ) → opens_size bs ≡ true → opens_report bs ≡ false
+no_report_then [] h = absurd (cc h)
+no_report_then (a ∷ []) h = absurd (cc h)
+no_report_then (a ∷ b ∷ []) h = absurd (cc h)
+no_report_then (a ∷ b ∷ c ∷ []) h = absurd (cc h)
+no_report_then (a ∷ b ∷ c ∷ d ∷ bs) h = grind (arith, nat_tests)
+
+by_size : (bs : List ℕ) → opens_size bs ≡ true → fate bs ≡ size_fate (drop 4 bs)
+by_size bs h =
+    cond-false (opens_report bs) (report_fate (drop 3 bs)) (other_fate bs) (no_report_then bs h)
+    ∙ cond-true (opens_size bs) (size_fate (drop 4 bs)) (fate_in sequences bs) h
 
 -- bytes that wait
 pub record BeginsReport (bs : List ℕ) : Type 0 where
   pub opens : opens_report bs ≡ true
   pub few : length (drop 3 bs) ≤ 11
+
+pub record BeginsSize (bs : List ℕ) : Type 0 where
+  pub opens : opens_size bs ≡ true
+  pub few : length (drop 4 bs) ≤ 11
 
 report_waits : (bs : List ℕ) → opens_report bs ≡ true → fate bs ≡ Waits → BeginsReport bs
 report_waits bs o h =
@@ -35,10 +59,19 @@ report_waits bs o h =
     let begun = begun_by (is_some (report_of ps)) (begins_report ps) (sym (by_report bs o) ∙ h) in
     record { opens = o; few = leb-true (length ps) 11 (and_parts (nat_le (length ps) 11) (list_all is_number_byte ps) begun.1).0 }
 
-pub known_waits : (bs : List ℕ) → fate bs ≡ Waits → BeginsReport bs ⊎ ((opens_report bs ≡ false) × IsBegun sequences bs)
+size_begun : (bs : List ℕ) → opens_size bs ≡ true → fate bs ≡ Waits → BeginsSize bs
+size_begun bs o h =
+    let ps : List ℕ = drop 4 bs in
+    let begun = begun_by (is_size ps) (begins_report ps) (sym (by_size bs o) ∙ h) in
+    record { opens = o; few = leb-true (length ps) 11 (and_parts (nat_le (length ps) 11) (list_all is_number_byte ps) begun.1).0 }
+
+pub known_waits : (bs : List ℕ) → fate bs ≡ Waits → BeginsReport bs ⊎ (BeginsSize bs ⊎ IsBegun sequences bs)
 known_waits bs h = elim (cases_Bool (opens_report bs)) [
   | inl opens ↦ inl (report_waits bs opens h)
-  | inr other ↦ inr (other, waits_says sequences bs (sym (by_table bs other) ∙ h))
+  | inr other ↦ elim (cases_Bool (opens_size bs)) [
+    | inl opens ↦ inr (inl (size_begun bs opens h))
+    | inr table ↦ inr (inr (waits_says sequences bs (sym (by_table bs other table) ∙ h)))
+  ]
 ]
 
 -- ---- bytes that are whole
@@ -92,6 +125,7 @@ pub data IsKnown (by_delete : Bool) (read : List ℕ) (o : Option (List ℕ)) : 
   ReportIs : (r : Report) → opens_report read ≡ true → report_of (drop 3 read) ≡ Some r → o ≡ Some (reported r) → IsKnown by_delete read o
   RowIs : (r : Row) → row_of by_delete read ≡ Some r → o ≡ Some r.becomes → IsKnown by_delete read o
   StartIs : paste_start ≡ read → o ≡ None → IsKnown by_delete read o
+  SizeIs : opens_size read ≡ true → is_size (drop 4 read) ≡ true → o ≡ Some (sized (drop 4 read)) → IsKnown by_delete read o
 
 report_known : (by_delete : Bool) (read : List ℕ) (o : Option Report) → opens_report read ≡ true → report_of (drop 3 read) ≡ o → is_some o ≡ true
     → IsKnown by_delete read (becomes_of by_delete read)
@@ -99,55 +133,92 @@ report_known by_delete read None opens e h = absurd (cc h)
 report_known by_delete read (Some r) opens e h =
     ReportIs r opens e (cond-true (opens_report read) (option_map reported (report_of (drop 3 read))) _ opens ∙ ap (option_map reported) e)
 
-row_known : (by_delete : Bool) (read : List ℕ) (o : Option Row) → opens_report read ≡ false → row_of by_delete read ≡ o → matches_any sequences read ≡ true
+abbrev other_becomes : Bool → List ℕ → Option (List ℕ)
+other_becomes by_delete read = cond (opens_size read) (Some (sized (drop 4 read))) (option_map (λ (r : Row). r.becomes) (row_of by_delete read))
+
+table_becomes : (by_delete : Bool) (read : List ℕ) → opens_report read ≡ false → opens_size read ≡ false
+    → becomes_of by_delete read ≡ option_map (λ (r : Row). r.becomes) (row_of by_delete read)
+table_becomes by_delete read other table =
+    cond-false (opens_report read) _ (other_becomes by_delete read) other
+    ∙ cond-false (opens_size read) (Some (sized (drop 4 read))) (option_map (λ (r : Row). r.becomes) (row_of by_delete read)) table
+
+row_known : (by_delete : Bool) (read : List ℕ) (o : Option Row) → opens_report read ≡ false → opens_size read ≡ false → row_of by_delete read ≡ o
+    → matches_any sequences read ≡ true → IsKnown by_delete read (becomes_of by_delete read)
+row_known by_delete read None other table e h =
+    StartIs (is_start by_delete read h e) (table_becomes by_delete read other table ∙ ap (option_map (λ (r : Row). r.becomes)) e)
+row_known by_delete read (Some r) other table e h = RowIs r e (table_becomes by_delete read other table ∙ ap (option_map (λ (r : Row). r.becomes)) e)
+
+size_known : (by_delete : Bool) (read : List ℕ) → opens_report read ≡ false → opens_size read ≡ true → is_size (drop 4 read) ≡ true
     → IsKnown by_delete read (becomes_of by_delete read)
-row_known by_delete read None other e h =
-    StartIs (is_start by_delete read h e) (cond-false (opens_report read) _ (option_map (λ (r : Row). r.becomes) (row_of by_delete read)) other ∙ ap (option_map (λ (r : Row). r.becomes)) e)
-row_known by_delete read (Some r) other e h =
-    RowIs r e (cond-false (opens_report read) _ (option_map (λ (r : Row). r.becomes) (row_of by_delete read)) other ∙ ap (option_map (λ (r : Row). r.becomes)) e)
+size_known by_delete read other opens h =
+    SizeIs opens h (cond-false (opens_report read) _ (other_becomes by_delete read) other ∙ cond-true (opens_size read) (Some (sized (drop 4 read))) _ opens)
 
 pub known_ends : (by_delete : Bool) (read : List ℕ) → fate read ≡ Ends → IsKnown by_delete read (becomes_of by_delete read)
 known_ends by_delete read h = elim (cases_Bool (opens_report read)) [
   | inl opens ↦ (
       let ps : List ℕ = drop 3 read in
       report_known by_delete read (report_of ps) opens refl (whole_by (is_some (report_of ps)) (begins_report ps) (sym (by_report read opens) ∙ h)))
-  | inr other ↦ row_known by_delete read (row_of by_delete read) other refl (ends_says sequences read (sym (by_table read other) ∙ h))
+  | inr other ↦ elim (cases_Bool (opens_size read)) [
+    | inl opens ↦ (
+        let ps : List ℕ = drop 4 read in
+        size_known by_delete read other opens (whole_by (is_size ps) (begins_report ps) (sym (by_size read opens) ∙ h)))
+    | inr table ↦ row_known by_delete read (row_of by_delete read) other table refl (ends_says sequences read (sym (by_table read other table) ∙ h))
+  ]
 ]
 
--- whole bytes match a sequence of the table, or are a report
-pub whole_says : (read : List ℕ) → fate read ≡ Ends → (matches_any sequences read ≡ true) ⊎ (opens_report read && is_some (report_of (drop 3 read)) ≡ true)
+-- whole bytes match a sequence of the table, or are a report, or a size
+pub whole_says : (read : List ℕ) → fate read ≡ Ends
+    → (matches_any sequences read ≡ true) ⊎ ((opens_report read && is_some (report_of (drop 3 read)) ≡ true) ⊎ (opens_size read && is_size (drop 4 read) ≡ true))
 whole_says read h = elim (cases_Bool (opens_report read)) [
-  | inl opens ↦ inr (
+  | inl opens ↦ inr (inl (
       let ps : List ℕ = drop 3 read in
       let whole = whole_by (is_some (report_of ps)) (begins_report ps) (sym (by_report read opens) ∙ h) in
-      ap (λ t. t && is_some (report_of ps)) opens ∙ whole)
-  | inr other ↦ inl (ends_says sequences read (sym (by_table read other) ∙ h))
+      ap (λ t. t && is_some (report_of ps)) opens ∙ whole))
+  | inr other ↦ elim (cases_Bool (opens_size read)) [
+    | inl opens ↦ inr (inr (
+        let ps : List ℕ = drop 4 read in
+        let whole = whole_by (is_size ps) (begins_report ps) (sym (by_size read opens) ∙ h) in
+        ap (λ t. t && is_size ps) opens ∙ whole))
+    | inr table ↦ inl (ends_says sequences read (sym (by_table read other table) ∙ h))
+  ]
 ]
 
 -- ---- a byte that breaks whatever has begun
 
--- a byte that a report has behind CSI
+-- a byte that a report or a size has behind CSI
 abbrev pub is_report_byte : ℕ → Bool
-is_report_byte b = is_number_byte b || ((nat_eq b 0x4D || nat_eq b 0x6D) || nat_eq b 0x3C)
+is_report_byte b = is_number_byte b || ((nat_eq b 0x4D || nat_eq b 0x6D) || (nat_eq b 0x3C || nat_eq b 0x74))
 
 pub record IsNone (b : ℕ) : Type 0 where
   pub no_number : is_number_byte b ≡ false
   pub no_final : nat_eq b 0x4D || nat_eq b 0x6D ≡ false
   pub no_start : nat_eq b 0x3C ≡ false
+  pub no_size : nat_eq b 0x74 ≡ false
 
 none_of : (b : ℕ) → is_report_byte b ≡ false → IsNone b
 none_of b h =
-    let number = or_parts (is_number_byte b) ((nat_eq b 0x4D || nat_eq b 0x6D) || nat_eq b 0x3C) h in
-    let final = or_parts (nat_eq b 0x4D || nat_eq b 0x6D) (nat_eq b 0x3C) number.1 in
-    record { no_number = number.0; no_final = final.0; no_start = final.1 }
+    let number = or_parts (is_number_byte b) ((nat_eq b 0x4D || nat_eq b 0x6D) || (nat_eq b 0x3C || nat_eq b 0x74)) h in
+    let final = or_parts (nat_eq b 0x4D || nat_eq b 0x6D) (nat_eq b 0x3C || nat_eq b 0x74) number.1 in
+    let last = or_parts (nat_eq b 0x3C) (nat_eq b 0x74) final.1 in
+    record { no_number = number.0; no_final = final.0; no_start = last.0; no_size = last.1 }
 
--- bytes and one more, which is in no report
+no_semicolon : (b : ℕ) → is_number_byte b ≡ false → nat_eq b 0x3B ≡ false
+no_semicolon b h = (or_parts (is_ascii_digit b) (nat_eq b 0x3B) h).1
+
+-- bytes and one more, which is in no report and no size
 breaks_by : (x : ℕ) (xs : List ℕ) (b : ℕ) → IsNone b → fate_in sequences (x ∷ (xs ++ b ∷ [])) ≡ Breaks → fate (x ∷ (xs ++ b ∷ [])) ≡ Breaks
 breaks_by x [] b n h = h
-breaks_by x (y ∷ []) b n h = by_table (x ∷ y ∷ b ∷ []) (and_right (nat_eq x 0x1B && nat_eq y 0x5B) (nat_eq b 0x3C) n.no_start) ∙ h
-breaks_by x (y ∷ z ∷ zs) b n h = elim (cases_Bool (opens_report (x ∷ y ∷ z ∷ (zs ++ b ∷ [])))) [
-  | inl opens ↦ by_report (x ∷ y ∷ z ∷ (zs ++ b ∷ [])) opens ∙ breaks_other zs b n.no_number n.no_final
-  | inr other ↦ by_table (x ∷ y ∷ z ∷ (zs ++ b ∷ [])) other ∙ h
+breaks_by x (y ∷ []) b n h = by_table (x ∷ y ∷ b ∷ []) (and_right (nat_eq x 0x1B && nat_eq y 0x5B) (nat_eq b 0x3C) n.no_start) refl ∙ h
+breaks_by x (y ∷ z ∷ []) b n h = elim (cases_Bool (opens_report (x ∷ y ∷ z ∷ b ∷ []))) [
+  | inl opens ↦ by_report (x ∷ y ∷ z ∷ b ∷ []) opens ∙ breaks_other [] b n.no_number n.no_final
+  | inr other ↦ by_table (x ∷ y ∷ z ∷ b ∷ []) other (and_right ((nat_eq x 0x1B && nat_eq y 0x5B) && nat_eq z 0x38) (nat_eq b 0x3B) (no_semicolon b n.no_number)) ∙ h
+]
+breaks_by x (y ∷ z ∷ v ∷ vs) b n h = elim (cases_Bool (opens_report (x ∷ y ∷ z ∷ v ∷ (vs ++ b ∷ [])))) [
+  | inl opens ↦ by_report (x ∷ y ∷ z ∷ v ∷ (vs ++ b ∷ [])) opens ∙ breaks_other (v ∷ vs) b n.no_number n.no_final
+  | inr other ↦ elim (cases_Bool (opens_size (x ∷ y ∷ z ∷ v ∷ (vs ++ b ∷ [])))) [
+    | inl opens ↦ by_size (x ∷ y ∷ z ∷ v ∷ (vs ++ b ∷ [])) opens ∙ size_breaks_other vs b n.no_number n.no_size
+    | inr table ↦ by_table (x ∷ y ∷ z ∷ v ∷ (vs ++ b ∷ [])) other table ∙ h
+  ]
 ]
 
 pub known_breaks_at : (x : ℕ) (xs : List ℕ) (b : ℕ) → list_all (lacks_after_first b) sequences ≡ true → is_report_byte b ≡ false

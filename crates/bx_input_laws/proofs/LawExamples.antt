@@ -10,16 +10,17 @@ use Rattle.std.proofs.lemmas.List.Folds.{list_all-append}
 use lib.Utf8.{encode}
 use Rattle.bx_bytes.specs.Pattern.{Piece, One, Many, is_within, matches, matches_any}
 use Rattle.bx_keys.specs.Keys.{decoding}
-use Rattle.bx_keys.specs.declared.key.Key.TheVariants.{Insert, EraseWord, ErasePoint, LineUp, Left, Select, PasteStart, PasteEnd, Point}
+use Rattle.bx_keys.specs.declared.key.Key.TheVariants.{Insert, EraseWord, ErasePoint, LineUp, Left, Select, PasteStart, PasteEnd, Point, Size, Fill}
 use Rattle.bx_input.specs.Table.{Row, rows, row_of, sequences, exact, paste_start, paste_end}
 use Rattle.bx_input.specs.Paste.{kept_characters, pasted}
 use Rattle.bx_input.specs.Filter as filter
 use Rattle.bx_input.specs.Filter.{State, Outside, Within, Step, step_to, start, at_end}
 use Rattle.bx_input.specs.Mouse.{opens_report}
-use Rattle.bx_input_laws.specs.Laws.{AddsReportKeys, HasNoReport, is_report}
-use Rattle.bx_input_laws.specs.Laws.{ComesInPieces, WaitsForFourteen, waiting_in, BecomesRow, HasNone, OthersPass, PastesText, IsText, PastesAreClean}
+use Rattle.bx_input.specs.Sizes.{opens_size}
+use Rattle.bx_input_laws.specs.Laws.{AddsReportKeys, AddsSizeKeys, HasNoReport, HasNoSize, is_report, is_size_sequence}
+use Rattle.bx_input_laws.specs.Laws.{ComesInPieces, WaitsForFifteen, waiting_in, BecomesRow, HasNone, OthersPass, PastesText, IsText, PastesAreClean}
 use Rattle.bx_input_laws.specs.Laws.{GrowsSixTimes, GrowsByTenThirds}
-use Rattle.bx_input_laws.specs.Laws.{HasKeys, AddsKeys, has_short, HasNoShort, GrowsByTwoThirds, PastesInsert, PastesKeepCharacters}
+use Rattle.bx_input_laws.specs.Laws.{HasKeys, AddsKeys, has_short, HasNoShort, GrowsByThreeFourths, PastesInsert, PastesKeepCharacters}
 
 -- ---- bytes with which no sequence begins
 
@@ -74,6 +75,24 @@ no_report bs n front middle back cut =
     let within = and_parts (list_all no_escape middle) (list_all no_escape back) (sym (list_all-append no_escape middle back) ∙ behind.1) in
     lacks_report middle within.0
 
+lacks_size : (bs : List ℕ) → list_all no_escape bs ≡ true → is_size_sequence bs ≡ false
+lacks_size [] n = refl
+lacks_size (a ∷ []) n = refl
+lacks_size (a ∷ b ∷ []) n = refl
+lacks_size (a ∷ b ∷ c ∷ []) n = refl
+lacks_size (a ∷ b ∷ c ∷ d ∷ bs) n =
+    let first : nat_eq a 0x1B ≡ false = not-true (nat_eq a 0x1B) (and_parts (no_escape a) (list_all no_escape (b ∷ c ∷ d ∷ bs)) n).0 in
+    and_left (opens_size (a ∷ b ∷ c ∷ d ∷ bs)) _
+    (and_left ((nat_eq a 0x1B && nat_eq b 0x5B) && nat_eq c 0x38) (nat_eq d 0x3B)
+    (and_left (nat_eq a 0x1B && nat_eq b 0x5B) (nat_eq c 0x38) (and_left (nat_eq a 0x1B) (nat_eq b 0x5B) first)))
+
+no_size : (bs : List ℕ) → list_all no_escape bs ≡ true → HasNoSize bs
+no_size bs n front middle back cut =
+    let whole : list_all no_escape (front ++ (middle ++ back)) ≡ true = ap (list_all no_escape) (sym cut) ∙ n in
+    let behind = and_parts (list_all no_escape front) (list_all no_escape (middle ++ back)) (sym (list_all-append no_escape front (middle ++ back)) ∙ whole) in
+    let within = and_parts (list_all no_escape middle) (list_all no_escape back) (sym (list_all-append no_escape middle back) ∙ behind.1) in
+    lacks_size middle within.0
+
 -- ---- bytes of which no part is a short row's
 
 abbrev all_fronts : (List ℕ → Bool) → List ℕ → Bool
@@ -121,15 +140,15 @@ of_in_any_pieces law bs e =
     ap (λ (x : Step). x.output) (law start bs (codes "A")) ∙ ap (λ s. (run start bs).output ++ (run s (codes "A")).output) e
 
 -- the longest sequence never waits whole
-pub of_waits_for_nine : WaitsForFourteen false → (bs : List ℕ) → (run start bs).state ≢ Outside (codes "\u{1b}[27;5;39~") false
+pub of_waits_for_nine : WaitsForFifteen false → (bs : List ℕ) → (run start bs).state ≢ Outside (codes "\u{1b}[27;5;39~") false
 of_waits_for_nine law bs e =
-    let short : opens_report (codes "\u{1b}[27;5;39~") ≡ false → 10 ≤ 9 =
-    subst (λ s. opens_report (waiting_in s) ≡ false → length (waiting_in s) ≤ 9) e (law bs).1 in
-    omega (arith, short refl)
+    let short : opens_report (codes "\u{1b}[27;5;39~") ≡ false → opens_size (codes "\u{1b}[27;5;39~") ≡ false → 10 ≤ 9 =
+    subst (λ s. opens_report (waiting_in s) ≡ false → opens_size (waiting_in s) ≡ false → length (waiting_in s) ≤ 9) e (law bs).1 in
+    omega (arith, short refl refl)
 
--- nor does a mouse report with more than its numbers
-pub of_waits_for_fourteen : WaitsForFourteen false → (bs : List ℕ) → (run start bs).state ≢ Outside (codes "\u{1b}[<000;001;0001") false
-of_waits_for_fourteen law bs e = let short : 15 ≤ 14 = subst (λ s. length (waiting_in s) ≤ 14) e (law bs).0 in omega (arith, short)
+-- nor does a size with more than its numbers
+pub of_waits_for_fifteen : WaitsForFifteen false → (bs : List ℕ) → (run start bs).state ≢ Outside (codes "\u{1b}[8;000000;00000") false
+of_waits_for_fifteen law bs e = let short : 16 ≤ 15 = subst (λ s. length (waiting_in s) ≤ 15) e (law bs).0 in omega (arith, short)
 
 -- a paste does not save: CTRL-S does not go out
 pub of_clean_byte : PastesAreClean false → (waiting : List ℕ) (after_return : Bool) (b : ℕ) → waiting ++ b ∷ [] ≢ paste_end
@@ -176,7 +195,7 @@ of_rows_become_second law bs e = law bs (0x1B ∷ 0x1B ∷ []) false e
 
 -- input without ESC and the control characters of the table
 pub of_others_pass : OthersPass false → (bs : List ℕ) → list_all (begins_none sequences) bs ≡ true → list_all no_escape bs ≡ true → filtered bs ≡ bs
-of_others_pass law bs n m = law bs (no_sequence sequences bs refl n) (no_report bs m)
+of_others_pass law bs n m = law bs (no_sequence sequences bs refl n) (no_report bs m) (no_size bs m)
 
 -- a letter, CTRL-Q, CTRL-S and a line feed
 pub of_others_pass_text : OthersPass false → filtered (codes "a\u{11}\u{13}\n") ≡ codes "a\u{11}\u{13}\n"
@@ -190,9 +209,9 @@ of_grows_six_times law = law (codes "\u{1}")
 pub of_grows_by_ten_thirds : GrowsByTenThirds false → length (filtered (codes "\u{1b}[a")) ≤ 10
 of_grows_by_ten_thirds law = omega (arith, law (codes "\u{1b}[a") refl)
 
--- Up in three bytes
-pub of_grows_by_two_thirds : GrowsByTwoThirds false → length (filtered (codes "\u{1b}[A")) ≤ 5
-of_grows_by_two_thirds law = omega (arith, law (codes "\u{1b}[A") (no_short (codes "\u{1b}[A") refl))
+-- a size in eight bytes
+pub of_grows_by_three_fourths : GrowsByThreeFourths false → length (filtered (codes "\u{1b}[8;2;3t")) ≤ 14
+of_grows_by_three_fourths law = omega (arith, law (codes "\u{1b}[8;2;3t") (no_short (codes "\u{1b}[8;2;3t") refl))
 
 pub of_rows_have_keys : AllByRecursion HasKeys (rows false) → decoding (codes "\u{1b}[96~") ≡ record { keys = LineUp ∷ []; rest = [] }
 of_rows_have_keys law = law.0
@@ -224,6 +243,10 @@ pub of_reports_add_none : AddsReportKeys false → (bs waiting : List ℕ) (is_o
     → (decoding (filtered (bs ++ codes "\u{1b}[<0;3;2m"))).keys ≡ (decoding (filtered bs)).keys ++ []
 of_reports_add_none law bs waiting is_open e =
     law bs waiting (codes "0;3;2m") is_open (record { button = 0; column = codes "3"; row = codes "2"; is_release = true }) e refl
+
+pub of_sizes_add_keys : AddsSizeKeys false → (bs : List ℕ) → (run start bs).state ≡ start
+    → (decoding (filtered (bs ++ codes "\u{1b}[8;24;80t"))).keys ≡ (decoding (filtered bs)).keys ++ Size 24 80 ∷ Fill ∷ []
+of_sizes_add_keys law bs e = law bs [] (codes "24") (codes "80") false e refl refl
 
 -- a paste with CR LF, CTRL-S and a control character of C1
 pub of_pastes_become_text : PastesText false → run start (paste_start ++ (codes "a\r\n\u{13}bÂ\u{85}" ++ paste_end)) ≡ step_to start (codes "\u{1b}[90~a\nb\u{1b}[91~")

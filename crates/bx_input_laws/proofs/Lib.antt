@@ -3,6 +3,7 @@ pub mod Clean
 pub mod Decoding
 pub mod Firsts
 pub mod Following
+pub mod Fourths
 pub mod FrameExamples
 pub mod FramesHeard
 pub mod Growth
@@ -18,5 +19,7 @@ pub mod Pastes
 pub mod ReportDecoding
 pub mod ReportFields
 pub mod ReportKeys
+pub mod SizeDecoding
+pub mod SizeKeys
+pub mod SizeSides
 pub mod States
-pub mod Thirds

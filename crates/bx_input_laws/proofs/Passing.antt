@@ -16,7 +16,7 @@ use Rattle.bx_input.specs.Table as table
 use Rattle.bx_input.specs.Known.{fate}
 use Rattle.bx_input.specs.Table.{Row, move_rows, typing_rows, function_rows, escape_rows, control_rows, erase_rows, byte_rows, sequences}
 use Rattle.bx_input.specs.Filter.{State, Outside, Step, step_to, with_front, ended, start, at_end, apart_from, has_two_escapes}
-use Rattle.bx_input_laws.specs.Laws.{are_escapes, became, longer_by, BecomesRow, HasNone, HasNoReport, is_report, OthersPass}
+use Rattle.bx_input_laws.specs.Laws.{are_escapes, became, longer_by, BecomesRow, HasNone, HasNoReport, HasNoSize, is_report, is_size_sequence, OthersPass}
 use Rattle.bx_input_laws.proofs.Firsts.{lacks_after_first, lacks_behind}
 use Rattle.bx_input_laws.proofs.Known.{is_report_byte, known_breaks_at, known_breaks_behind, whole_says}
 use Rattle.bx_input.proofs.Runs.{in_pieces, one_more}
@@ -53,18 +53,21 @@ none_behind patterns xs ys h front middle back e = h (xs ++ front) middle back (
 pub record IsPlain (bs : List ℕ) : Type 0 where
   pub no_sequence : HasNone sequences bs
   pub no_report : HasNoReport bs
+  pub no_size : HasNoSize bs
 
 plain_behind : (xs ys : List ℕ) → IsPlain (xs ++ ys) → IsPlain ys
 plain_behind xs ys h = record {
   no_sequence = none_behind sequences xs ys h.no_sequence;
   no_report = λ front middle back e. h.no_report (xs ++ front) middle back (ap (λ zs. xs ++ zs) e ∙ sym (append_assoc xs front (middle ++ back)));
+  no_size = λ front middle back e. h.no_size (xs ++ front) middle back (ap (λ zs. xs ++ zs) e ∙ sym (append_assoc xs front (middle ++ back)));
 }
 
 -- no part of them is whole
 not_whole : (bs front middle back : List ℕ) → IsPlain bs → bs ≡ front ++ (middle ++ back) → fate middle ≡ Ends → ⊥
 not_whole bs front middle back plain e h = elim (whole_says middle h) [
   | inl sequence ↦ both_ways (matches_any sequences middle) (plain.no_sequence front middle back e) sequence
-  | inr report ↦ both_ways (is_report middle) (plain.no_report front middle back e) report
+  | inr (inl report) ↦ both_ways (is_report middle) (plain.no_report front middle back e) report
+  | inr (inr size) ↦ both_ways (is_size_sequence middle) (plain.no_size front middle back e) size
 ]
 
 -- ---- whether or not the terminal's own erase character is DELETE
@@ -429,4 +432,4 @@ module _ (by_delete : Bool) where
       ∙ pass_by (fate (waiting ++ b ∷ [])) waiting is_open b bs refl plain (λ w o h. pass_all w o bs h)
 
   pub others_pass : OthersPass by_delete
-  others_pass bs none no_report = pass_all [] false bs (record { no_sequence = none; no_report = no_report })
+  others_pass bs none no_report no_size = pass_all [] false bs (record { no_sequence = none; no_report = no_report; no_size = no_size })

@@ -43,7 +43,7 @@ past_digits (d ∷ ds) rest h =
     cond-true (is_within 0x20 0x3F d) (past 0x20 0x3F (ds ++ rest)) (d ∷ (ds ++ rest)) (digit_parameter d parts.0) ∙ past_digits ds rest parts.1
 
 -- the row, the column and the final byte
-past_cell : (row column : List ℕ) → all_ascii_digits row ≡ true → all_ascii_digits column ≡ true
+pub past_cell : (row column : List ℕ) → all_ascii_digits row ≡ true → all_ascii_digits column ≡ true
     → past 0x20 0x3F ((row ++ 0x3B ∷ column) ++ 0x74 ∷ []) ≡ 0x74 ∷ []
 past_cell row column h g =
     ap (past 0x20 0x3F) (append_assoc row (0x3B ∷ column) (0x74 ∷ []))
@@ -59,14 +59,14 @@ drag_item row column h g = ap (λ t. t || false) (ap (matches (One 0x40 0x7E ∷
 no_semicolon : (b : ℕ) → is_ascii_digit b ≡ true → nat_eq b 0x3B ≡ false
 no_semicolon b h = grind (arith, nat_tests)
 
-first_field : (ds rest : List ℕ) → all_ascii_digits ds ≡ true → slice_split semicolon (ds ++ 0x3B ∷ rest) ≡ ds ∷ slice_split semicolon rest
+pub first_field : (ds rest : List ℕ) → all_ascii_digits ds ≡ true → slice_split semicolon (ds ++ 0x3B ∷ rest) ≡ ds ∷ slice_split semicolon rest
 first_field [] rest h = refl
 first_field (d ∷ ds) rest h =
     let parts = and_parts (is_ascii_digit d) (all_ascii_digits ds) h in
     let other : semicolon d ≡ false = no_semicolon d parts.0 in
     rw (other, first_field ds rest parts.1) refl
 
-last_field : (ds : List ℕ) → all_ascii_digits ds ≡ true → slice_split semicolon ds ≡ ds ∷ []
+pub last_field : (ds : List ℕ) → all_ascii_digits ds ≡ true → slice_split semicolon ds ≡ ds ∷ []
 last_field [] h = refl
 last_field (d ∷ ds) h =
     let parts = and_parts (is_ascii_digit d) (all_ascii_digits ds) h in
@@ -74,7 +74,7 @@ last_field (d ∷ ds) h =
     rw (other, last_field ds parts.1) refl
 
 -- the final byte, and the bytes before it
-sides_at_end : (front : List ℕ) → sequence_key (front ++ 0x74 ∷ []) ≡ sides_key (slice_split semicolon front)
+pub sides_at_end : (front : List ℕ) → sequence_key (front ++ 0x74 ∷ []) ≡ sides_key (slice_split semicolon front)
 sides_at_end front =
     let body : List ℕ = front ++ 0x74 ∷ [] in
     let last : final_byte body ≡ 0x74 = get_or_push front 0x74 0 (length body - 1) (omega (arith, length_push front 0x74)) in
@@ -82,7 +82,7 @@ sides_at_end front =
     ∙ ap (λ bs. sides_key (slice_split semicolon bs)) (take_at front (0x74 ∷ []) (length body - 1) (omega (arith, length_push front 0x74)))
 
 -- the key of a sequence of two sides, whose first number is one digit that is `kind`
-sides_by : (kind : ℕ) (row column : List ℕ) → is_side_in_digits row ≡ true → is_side_in_digits column ≡ true
+pub sides_by : (kind : ℕ) (row column : List ℕ) → is_side_in_digits row ≡ true → is_side_in_digits column ≡ true
     → sides_key ((kind ∷ []) ∷ slice_split semicolon (row ++ 0x3B ∷ column)) ≡ key_by_kind (kind ∷ []) (digits_value 10 row) (digits_value 10 column)
 sides_by kind row column h g =
     let fields = first_field row column (side_is row h).digits ∙ ap (λ fields. row ∷ fields) (last_field column (side_is column g).digits) in
@@ -98,7 +98,7 @@ drag_key : (row column : List ℕ) → is_side_in_digits row ≡ true → is_sid
     → key_of (drag_bytes row column) ≡ Some (Drag (digits_value 10 row) (digits_value 10 column))
 drag_key row column h g = sides_at_end (0x39 ∷ 0x3B ∷ (row ++ 0x3B ∷ column)) ∙ sides_by 0x39 row column h g
 
-abbrev decoded : List Key → Decoding
+abbrev pub decoded : List Key → Decoding
 decoded keys = record { keys = keys; rest = [] }
 
 point_decodes : (row column : List ℕ) → is_side_in_digits row ≡ true → is_side_in_digits column ≡ true
@@ -119,7 +119,7 @@ pub record IsSent (keys : List Key) (d : Decoding) : Type 0 where
   pub are : d.keys ≡ keys
   pub free : IsFree d.rest
 
-sent : (is_open : Bool) (rest bs : List ℕ) (keys : List Key) → starts_anew bs ≡ true → decoding bs ≡ decoded keys → editor.fate rest ≡ Waits
+pub sent : (is_open : Bool) (rest bs : List ℕ) (keys : List Key) → starts_anew bs ≡ true → decoding bs ≡ decoded keys → editor.fate rest ≡ Waits
     → (is_open ≡ false → IsFree rest) → IsSent keys (decoding (rest ++ apart_from is_open bs))
 sent is_open rest bs keys s h w free = subst (IsSent keys) (sym (sent_anew is_open rest bs s w free ∙ h)) (record { are = refl; free = nothing_free })
 

@@ -54,7 +54,7 @@ numbers_len ns r is =
     let joined = ap length is.joined in
     omega (arith, joined, length-append is.button (0x3B ∷ (r.column ++ 0x3B ∷ r.row)), length-append r.column (0x3B ∷ r.row))
 
-both_all : (xs ys : List ℕ) → list_all is_number_byte xs ≡ true → list_all is_number_byte ys ≡ true → list_all is_number_byte (xs ++ 0x3B ∷ ys) ≡ true
+pub both_all : (xs ys : List ℕ) → list_all is_number_byte xs ≡ true → list_all is_number_byte ys ≡ true → list_all is_number_byte (xs ++ 0x3B ∷ ys) ≡ true
 both_all xs ys h g =
     list_all-append is_number_byte xs (0x3B ∷ ys) ∙ and_from (list_all is_number_byte xs) (list_all is_number_byte (0x3B ∷ ys)) h g
 

@@ -21,7 +21,7 @@ use Rattle.bx_input_laws.proofs.Passing.{EndsSo, whole_sequence}
 use Rattle.bx_input_laws.proofs.ReportDecoding.{report_sent}
 use Rattle.bx_input_laws.proofs.ReportFields.{has_numbers, has_lengths, numbers_begin, last_apart}
 
-begins_front : (xs ys : List ℕ) → begins_report (xs ++ ys) ≡ true → begins_report xs ≡ true
+pub begins_front : (xs ys : List ℕ) → begins_report (xs ++ ys) ≡ true → begins_report xs ≡ true
 begins_front xs ys h =
     let parts = and_parts (nat_le (length (xs ++ ys)) 11) (list_all is_number_byte (xs ++ ys)) h in
     let few : length (xs ++ ys) ≤ 11 = leb-true (length (xs ++ ys)) 11 parts.0 in

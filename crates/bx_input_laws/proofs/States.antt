@@ -7,11 +7,12 @@ use Rattle.bx_bytes.specs.declared.fate.Fate.{Fate}
 use Rattle.bx_bytes.specs.declared.fate.Fate.TheVariants.{Waits, Ends, Breaks}
 use Rattle.bx_input.specs.Known.{fate, becomes_of}
 use Rattle.bx_input.specs.Mouse.{opens_report}
+use Rattle.bx_input.specs.Sizes.{opens_size}
 use Rattle.bx_input.specs.Table.{sequences, paste_end}
 use Rattle.bx_input.specs.Paste.{paste_fate, paste_sequences}
 use Rattle.bx_input.specs.Filter.{State, Outside, Within, Step, ended_in_paste, paste_step_by, fresh_in_paste, ended, start, fresh, broken}
 use Rattle.bx_input.specs.Filter.{has_two_escapes, plain_step, behind_escape, step_by, step, run}
-use Rattle.bx_input_laws.specs.Laws.{waiting_in, WaitsForFourteen}
+use Rattle.bx_input_laws.specs.Laws.{waiting_in, WaitsForFifteen}
 use Rattle.bx_input_laws.proofs.Firsts.{waits_says, any_fewer}
 use Rattle.bx_input_laws.proofs.Known.{known_waits}
 
@@ -76,19 +77,20 @@ module _ (by_delete : Bool) where
   run_sound s (b ∷ bs) h = run_sound (step by_delete s b).state bs (step_sound s b)
 
   abbrev IsFew : List ℕ → Type 0
-  IsFew waiting = (length waiting ≤ 14) × (opens_report waiting ≡ false → length waiting ≤ 9)
+  IsFew waiting = (length waiting ≤ 15) × (opens_report waiting ≡ false → opens_size waiting ≡ false → length waiting ≤ 9)
 
-  fourteen : (s : State) → IsSound s → IsFew (waiting_in s)
-  fourteen (Outside waiting is_open) h = elim (known_waits waiting h) [
-    | inl report ↦ (omega (arith, report.few, length-drop 3 waiting), λ e. absurd (both_ways (opens_report waiting) e report.opens))
-    | inr other ↦ (
-        let nine = any_fewer sequences 10 waiting refl other.1.begins other.1.not_whole in
-        (omega (arith, nine), λ e. omega (arith, nine)))
+  fifteen : (s : State) → IsSound s → IsFew (waiting_in s)
+  fifteen (Outside waiting is_open) h = elim (known_waits waiting h) [
+    | inl report ↦ (omega (arith, report.few, length-drop 3 waiting), λ e g. absurd (both_ways (opens_report waiting) e report.opens))
+    | inr (inl size) ↦ (omega (arith, size.few, length-drop 4 waiting), λ e g. absurd (both_ways (opens_size waiting) g size.opens))
+    | inr (inr other) ↦ (
+        let nine = any_fewer sequences 10 waiting refl other.begins other.not_whole in
+        (omega (arith, nine), λ e g. omega (arith, nine)))
   ]
-  fourteen (Within waiting after_return) h =
+  fifteen (Within waiting after_return) h =
       let ucd = waits_says paste_sequences waiting h.0 in
       let five = any_fewer paste_sequences 6 waiting refl ucd.begins ucd.not_whole in
-      (omega (arith, five), λ e. omega (arith, five))
+      (omega (arith, five), λ e g. omega (arith, five))
 
-  pub waits_for_fourteen : WaitsForFourteen by_delete
-  waits_for_fourteen bs = fourteen (run by_delete start bs).state (run_sound start bs refl)
+  pub waits_for_fifteen : WaitsForFifteen by_delete
+  waits_for_fifteen bs = fifteen (run by_delete start bs).state (run_sound start bs refl)

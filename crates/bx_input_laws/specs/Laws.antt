@@ -1,13 +1,14 @@
 -- Laws of the filter, for any input. `b` is a byte, `bs` are bytes, `s` is a state of the filter, `r` a row of its table.
-use Rattle.std.specs.Prelude.{◌≡◌, ◌≢◌, ◌≤◌, ℕ, ◌*◌, Bool, true, false, not, ◌&&◌, ◌||◌, ◌==◌, nat_le, List, [], ◌∷◌, ◌++◌, length, map, drop, is_some, Option, Some, None, if◌then◌else◌}
+use Rattle.std.specs.Prelude.{◌≡◌, ◌≢◌, ◌≤◌, ℕ, ◌*◌, Bool, true, false, not, ◌&&◌, ◌||◌, ◌==◌, nat_le, List, [], ◌∷◌, ◌++◌, length, map, drop, codes, is_some, Option, Some, None, if◌then◌else◌}
 use Rattle.std.specs.List.{list_all, list_any}
 use Rattle.std.specs.Str.{bytes_eq, chars, IsUtf8}
 use Rattle.std.specs.Str.Parse.{digits_value}
 use Rattle.bx_bytes.specs.Pattern.{Piece, matches_any}
-use Rattle.bx_keys.specs.Keys.{decoding}
+use Rattle.bx_keys.specs.Keys.{decoding, is_side_in_digits}
 use Rattle.bx_keys.specs.declared.key.Key.{Key}
-use Rattle.bx_keys.specs.declared.key.Key.TheVariants.{Insert, PasteStart, PasteEnd, Point, Drag, Select, ScrollBack, ScrollOn}
+use Rattle.bx_keys.specs.declared.key.Key.TheVariants.{Insert, PasteStart, PasteEnd, Point, Drag, Select, ScrollBack, ScrollOn, Size, Fill}
 use Rattle.bx_input.specs.Mouse.{Report, opens_report, report_of}
+use Rattle.bx_input.specs.Sizes.{opens_size, is_size}
 use Rattle.bx_input.specs.Table.{Row, csi, keys_of, byte_rows, row_of, sequences, exact, paste_start, paste_end, start_told, end_told}
 use Rattle.bx_input.specs.Paste.{is_control_byte, kept_characters, pasted}
 use Rattle.bx_input.specs.Filter as filter
@@ -22,7 +23,15 @@ waiting_in (Within waiting after_return) = waiting
 abbrev pub is_report : List ℕ → Bool
 is_report bs = opens_report bs && is_some (report_of (drop 3 bs))
 
+-- the bytes are a size of the window
+abbrev pub is_size_sequence : List ℕ → Bool
+is_size_sequence bs = opens_size bs && is_size (drop 4 bs)
+
 -- no part of these bytes is one
+abbrev pub HasNoSize : List ℕ → Type 0
+HasNoSize bs = (front middle back : List ℕ) → bs ≡ front ++ (middle ++ back) → is_size_sequence middle ≡ false
+
+-- no part of these bytes is a mouse report
 abbrev pub HasNoReport : List ℕ → Type 0
 HasNoReport bs = (front middle back : List ℕ) → bs ≡ front ++ (middle ++ back) → is_report middle ≡ false
 
@@ -78,7 +87,7 @@ is_key_byte b = list_any (λ (r : Row). bytes_eq r.sequence (b ∷ [])) (byte_ro
 abbrev pub HasKeys : Row → Type 0
 HasKeys r = decoding r.becomes ≡ record { keys = keys_of r; rest = [] }
 
--- rows of one or two bytes, and rows with Select of three or four, whose output is more than 5/3 as long as their sequence
+-- rows of one or two bytes, and rows with Select of three or four, whose output is more than 7/4 as long as their sequence
 abbrev pub is_short : Row → Bool
 is_short r = nat_le (length r.sequence) 2 || (r.selects && nat_le (length r.sequence) 4)
 
@@ -106,12 +115,12 @@ module _ (erases_by_delete : Bool) where
       let first : Step = run s bs in
       run s (bs ++ more) ≡ with_front first.output (run first.state more)
 
-  -- at most fourteen bytes wait: CSI < and the numbers of a mouse report. Of all else at most nine do (CSI 27;5;39, the longest
-  -- beginning of a sequence of the table or of a paste's start).
-  abbrev pub WaitsForFourteen : Type 0
-  WaitsForFourteen = (bs : List ℕ) →
+  -- At most fifteen bytes wait: CSI 8 ; and as many bytes as the numbers of a mouse report have. Of what begins neither a report nor a
+  -- size at most nine do (CSI 27;5;39, the longest beginning of a sequence of the table or of a paste's start).
+  abbrev pub WaitsForFifteen : Type 0
+  WaitsForFifteen = (bs : List ℕ) →
       let waiting : List ℕ = waiting_in (run start bs).state in
-      (length waiting ≤ 14) × (opens_report waiting ≡ false → length waiting ≤ 9)
+      (length waiting ≤ 15) × (opens_report waiting ≡ false → opens_size waiting ≡ false → length waiting ≤ 9)
 
   -- the row that the bytes of `r` complete where an ESC waits before them, if the table has one: of ESC and DELETE
   abbrev pub longer_row : List ℕ → Row → Option Row
@@ -130,9 +139,9 @@ module _ (erases_by_delete : Bool) where
   BecomesRow r = (bs waiting : List ℕ) (is_open : Bool) → (run start bs).state ≡ Outside waiting is_open
       → run start (bs ++ r.sequence) ≡ step_to start (became bs waiting is_open r (longer_row waiting r))
 
-  -- input with no sequence of the table, no start of a paste and no mouse report goes out unchanged
+  -- input with no sequence of the table, no start of a paste, no mouse report and no size goes out unchanged
   abbrev pub OthersPass : Type 0
-  OthersPass = (bs : List ℕ) → HasNone sequences bs → HasNoReport bs → filtered bs ≡ bs
+  OthersPass = (bs : List ℕ) → HasNone sequences bs → HasNoReport bs → HasNoSize bs → filtered bs ≡ bs
 
   -- a paste after input that ends outside one, up to the first end of a paste: PasteStart, the text and PasteEnd
   abbrev pub PastesText : Type 0
@@ -162,9 +171,9 @@ module _ (erases_by_delete : Bool) where
   abbrev pub HasNoShort : List ℕ → Type 0
   HasNoShort bs = (front middle back : List ℕ) → bs ≡ front ++ (middle ++ back) → has_short (row_of erases_by_delete middle) ≡ false
 
-  -- without short rows, output is at most 5/3 as long as the input: three bytes become at most five
-  abbrev pub GrowsByTwoThirds : Type 0
-  GrowsByTwoThirds = (bs : List ℕ) → HasNoShort bs → 3 * length (filtered bs) ≤ 5 * length bs
+  -- without short rows, output is at most 7/4 as long as the input: a size of eight bytes becomes fourteen
+  abbrev pub GrowsByThreeFourths : Type 0
+  GrowsByThreeFourths = (bs : List ℕ) → HasNoShort bs → 4 * length (filtered bs) ≤ 7 * length bs
 
   -- After any input that ends outside a paste, the row's sequence gives the editor the row's keys and no other: one, or Select
   -- and one. With an ESC that belongs to a longer row, they are that row's.
@@ -177,6 +186,13 @@ module _ (erases_by_delete : Bool) where
   AddsReportKeys = (bs waiting ps : List ℕ) (is_open : Bool) (r : Report) → (run start bs).state ≡ Outside waiting is_open
       → report_of ps ≡ Some r
       → (decoding (filtered (bs ++ csi (0x3C ∷ ps)))).keys ≡ (decoding (filtered bs)).keys ++ keys_of_report r
+
+  -- After any input that ends outside a paste, a size gives the editor the keys Size and Fill and no other.
+  abbrev pub AddsSizeKeys : Type 0
+  AddsSizeKeys = (bs waiting h w : List ℕ) (is_open : Bool) → (run start bs).state ≡ Outside waiting is_open
+      → is_side_in_digits h ≡ true → is_side_in_digits w ≡ true
+      → (decoding (filtered (bs ++ csi (codes "8;" ++ ((h ++ 0x3B ∷ w) ++ codes "t"))))).keys
+      ≡ (decoding (filtered bs)).keys ++ Size (digits_value 10 h) (digits_value 10 w) ∷ Fill ∷ []
 
   -- The editor's keys for a paste are PasteStart, those of its text, and PasteEnd, whatever bytes wait. Each of the text inserts
   -- a character, and does nothing else. If the text is UTF-8, these are its characters in order.

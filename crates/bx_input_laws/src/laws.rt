@@ -4,8 +4,8 @@
 ghost use Rattle.std.specs.Prelude.{Bool};
 ghost use Rattle.std.specs.List.{AllByRecursion};
 ghost use Rattle.bx_input_laws.specs.Hearing.{AreHeardInOrder};
-ghost use Rattle.bx_input_laws.specs.Laws.{AddsKeys, AddsReportKeys, BecomesRow, ComesInPieces, GrowsByTenThirds, GrowsByTwoThirds, GrowsSixTimes, HasKeys, OthersPass};
-ghost use Rattle.bx_input_laws.specs.Laws.{PastesAreClean, WaitsForFourteen};
+ghost use Rattle.bx_input_laws.specs.Laws.{AddsKeys, AddsReportKeys, AddsSizeKeys, BecomesRow, ComesInPieces, GrowsByTenThirds, GrowsByThreeFourths, GrowsSixTimes, HasKeys, OthersPass};
+ghost use Rattle.bx_input_laws.specs.Laws.{PastesAreClean, WaitsForFifteen};
 ghost use Rattle.bx_input_laws.specs.Laws.{PastesInsert, PastesKeepCharacters, PastesText};
 ghost use Rattle.bx_input.specs.Table.{rows};
 
@@ -14,9 +14,9 @@ pub fn in_any_pieces()
     ensures { (erases_by_delete : Bool) → ComesInPieces erases_by_delete }
 {}
 
-/// At most fourteen bytes wait, and at most nine that begin no mouse report.
-pub fn waits_for_fourteen()
-    ensures { (erases_by_delete : Bool) → WaitsForFourteen erases_by_delete }
+/// At most fifteen bytes wait, and at most nine that begin no mouse report and no size.
+pub fn waits_for_fifteen()
+    ensures { (erases_by_delete : Bool) → WaitsForFifteen erases_by_delete }
 {}
 
 /// The output of a paste has no control byte except TAB and LF, up to the PasteEnd that its end gives.
@@ -30,17 +30,17 @@ pub fn rows_become()
     ensures { (erases_by_delete : Bool) → AllByRecursion (BecomesRow erases_by_delete) (rows erases_by_delete) }
 {}
 
-/// Input with no sequence of the table, no paste and no mouse report goes out unchanged.
+/// Input with no sequence of the table, no paste, no mouse report and no size goes out unchanged.
 pub fn others_pass()
     ensures { (erases_by_delete : Bool) → OthersPass erases_by_delete }
 {}
 
 /// Output is at most six times as long as the input, at most ten thirds as long if no key comes as a single byte, and at most
-/// two thirds longer if no key comes as one or two bytes, or selects by three or four.
+/// three fourths longer if no key comes as one or two bytes, or selects by three or four.
 pub fn grows_six_times()
     ensures six_times { (erases_by_delete : Bool) → GrowsSixTimes erases_by_delete }
     ensures ten_thirds { (erases_by_delete : Bool) → GrowsByTenThirds erases_by_delete }
-    ensures two_thirds { (erases_by_delete : Bool) → GrowsByTwoThirds erases_by_delete }
+    ensures three_fourths { (erases_by_delete : Bool) → GrowsByThreeFourths erases_by_delete }
 {}
 
 /// The editor decodes the bytes of each row as the keys of the row: one, or Select and one.
@@ -68,6 +68,11 @@ pub fn rows_add_keys()
 /// cell that is pointed at, Select and that cell, the cell to which the pointer is dragged, or a key of the wheel.
 pub fn reports_add_keys()
     ensures { (erases_by_delete : Bool) → AddsReportKeys erases_by_delete }
+{}
+
+/// After any input that ends outside a paste, a size of the window gives the editor the keys Size and Fill, and no other.
+pub fn sizes_add_keys()
+    ensures { (erases_by_delete : Bool) → AddsSizeKeys erases_by_delete }
 {}
 
 /// After any input that ends outside a paste, a paste only inserts, between PasteStart and PasteEnd: the characters of its text

@@ -1,5 +1,5 @@
 use Rattle.bx_input_laws.proofs.Growth as growth
-use Rattle.bx_input_laws.proofs.Thirds.{grows_by_two_thirds}
+use Rattle.bx_input_laws.proofs.Fourths.{grows_by_three_fourths}
 use Rattle.bx_input_laws.proofs.laws.grows_six_times.Goals as goal
 
 pub returns-clause-six_times : goal.returns-clause-six_times
@@ -8,5 +8,5 @@ returns-clause-six_times c = growth.grows_six_times
 pub returns-clause-ten_thirds : goal.returns-clause-ten_thirds
 returns-clause-ten_thirds c = growth.grows_by_ten_thirds
 
-pub returns-clause-two_thirds : goal.returns-clause-two_thirds
-returns-clause-two_thirds c = grows_by_two_thirds
+pub returns-clause-three_fourths : goal.returns-clause-three_fourths
+returns-clause-three_fourths c = grows_by_three_fourths
