@@ -10,7 +10,7 @@ ghost use Rattle.bx_session.specs.Session.{at_opening, with_clipboard};
 ghost use Rattle.bx_world.specs.World.{around};
 
 use bx_common::Base;
-use bx_session::{OpenError, Session};
+use bx_session::{OpenError, Refused, Session, Settings};
 use bx_terminal::Screen;
 use bx_ucd::BidiData;
 use std::alloc::Global;
@@ -102,6 +102,11 @@ impl<D: BidiData + Drop> World<D> {
         ensures { self.new ≡ record self.old { world = record self.old.world { session = with_clipboard self.old.world.session } } }
     {
         self.session.use_clipboard();
+    }
+
+    /// Works by these settings from the first picture on. To be called before anything is sent.
+    pub fn set(&mut self, settings: Settings) -> Result<(), Refused> {
+        self.session.set(settings)
     }
 
     /// The session.

@@ -44,6 +44,8 @@ fn word_of_question(prompt: Prompt) -> &'static str {
         Prompt::Line => "line",
         Prompt::Name => "name",
         Prompt::Code => "code",
+        Prompt::File => "file",
+        Prompt::Overwrite => "overwrite",
     }
 }
 

@@ -68,6 +68,7 @@ fn stage_of<'a>(
     if scene.has_clipboard {
         world.use_clipboard();
     }
+    let _ = world.set(scene.options.settings(alloc)?);
     Ok(Ok(Stage {
         alloc,
         world,
@@ -121,6 +122,7 @@ fn play_alone(
             if scene.has_clipboard {
                 session.use_clipboard();
             }
+            let _ = session.set(scene.options.settings(alloc)?);
             let mut alone = Alone {
                 alloc,
                 session,

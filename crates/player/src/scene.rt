@@ -1,6 +1,7 @@
 //! Parses a scene: a line of input that has a text, a window and steps. The head of `main.rt` describes its fields.
 
 use bx_common::Base;
+use bx_session::Settings;
 use bx_store::MemoryStore;
 use bx_world::Step;
 use player_lines::{WordFault, byte_of, bytes_of, call_of, count_of, side_of, two_of};
@@ -89,6 +90,8 @@ pub struct Scene<'a> {
     pub failing: Option<u64>,
     /// Whether text that is copied or cut goes out to a clipboard.
     pub has_clipboard: bool,
+    /// How the session works.
+    pub options: SceneOptions<'a>,
     /// FILE
     pub file: Vec<u8>,
     /// STEPS
@@ -178,12 +181,81 @@ fn add_acts<'a>(acts: &mut Vec<Act<'a>>, word: &'a str) -> Result<(), WordFault>
 /// The word among STEPS that gives the session a clipboard.
 const CLIPBOARD: &str = "clipboard";
 
+/// How a scene's session works, as words among STEPS say.
+#[derive(Clone, Copy)]
+pub struct SceneOptions<'a> {
+    pub read_only: bool,
+    pub auto_indent: bool,
+    pub tab_width: u8,
+    /// The digits of the file's name.
+    pub name: Option<&'a str>,
+}
+
+impl<'a> SceneOptions<'a> {
+    /// The options that a field STEPS has.
+    fn of(steps: &'a str) -> SceneOptions<'a> {
+        let mut options = SceneOptions {
+            read_only: false,
+            auto_indent: false,
+            tab_width: 0,
+            name: None,
+        };
+        for word in steps.split(' ') {
+            options.take(word);
+        }
+        options
+    }
+
+    /// Takes a word that is an option; whether it is one.
+    fn take(&mut self, word: &'a str) -> bool {
+        match word {
+            "view" => self.read_only = true,
+            "indent" => self.auto_indent = true,
+            _ => {
+                if let Some(width) = word.strip_prefix("spaces=") {
+                    self.tab_width = width.parse().unwrap_or(0);
+                } else if let Some(name) = word.strip_prefix("name=") {
+                    self.name = Some(name);
+                } else {
+                    return word == CLIPBOARD;
+                }
+            }
+        }
+        true
+    }
+
+    /// The settings of a session.
+    pub fn settings(&self, alloc: Global) -> Result<Settings, AllocError> {
+        let name = match self.name {
+            Some(digits) => Some(text_of(alloc, digits)?),
+            None => None,
+        };
+        Ok(Settings {
+            read_only: self.read_only,
+            auto_indent: self.auto_indent,
+            tab_width: self.tab_width,
+            name,
+        })
+    }
+}
+
+/// A text by its digits; the empty one if they are none.
+fn text_of(alloc: Global, digits: &str) -> Result<String, AllocError> {
+    let Ok(bytes) = bytes_of(alloc, digits) else {
+        return Ok(String::new(alloc));
+    };
+    match String::from_utf8(bytes) {
+        Ok(text) => Ok(text),
+        Err(_) => Ok(String::new(alloc)),
+    }
+}
+
 /// Parses the field STEPS; a hyphen has no acts.
 fn acts_of(alloc: Global, field: &str) -> Result<Vec<Act<'_>>, WordFault> {
     let mut acts = Vec::new(alloc);
     if field != "-" {
         for word in field.split(' ') {
-            if word != CLIPBOARD {
+            if !SceneOptions::of("").take(word) {
                 add_acts(&mut acts, word)?;
             }
         }
@@ -239,6 +311,7 @@ impl<'a> Scene<'a> {
         let failing = call_of(fields.next().ok_or(missing)?)?;
         let file = bytes_of(alloc, fields.next().ok_or(missing)?)?;
         let steps = fields.next().ok_or(missing)?;
+        let options = SceneOptions::of(steps);
         let has_clipboard = steps.split(' ').any(|word| word == CLIPBOARD);
         let acts = acts_of(alloc, steps)?;
         let mode = mode_of(fields.next().unwrap_or("both"))?;
@@ -254,6 +327,7 @@ impl<'a> Scene<'a> {
             width,
             failing,
             has_clipboard,
+            options,
             file,
             acts,
             mode,

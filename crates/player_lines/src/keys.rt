@@ -11,6 +11,7 @@ fn name_of(key: Key) -> &'static str {
         Key::Insert(_) => "insert",
         Key::Size(_, _) => "size",
         Key::Point(_, _) => "point",
+        Key::Drag(_, _) => "drag",
         Key::Erase => "erase",
         Key::Delete => "delete",
         Key::Back => "back",
@@ -57,6 +58,13 @@ fn name_of(key: Key) -> &'static str {
         Key::Replace => "replace",
         Key::Name => "name",
         Key::Tell => "tell",
+        Key::SelectAll => "select_all",
+        Key::FindPrevious => "find_previous",
+        Key::Fill => "fill",
+        Key::SaveAs => "save_as",
+        Key::ScrollBack => "scroll_back",
+        Key::ScrollOn => "scroll_on",
+        Key::AskOverwrite => "ask_overwrite",
         Key::PasteStart => "paste_start",
         Key::PasteEnd => "paste_end",
         Key::Notice(notice) => notice_name(notice),
@@ -126,7 +134,7 @@ pub fn keys_line(alloc: Global, fields: &[&str]) -> Result<String, WordFault> {
                 write!(line, "/{code:04X}")?;
             }
             Key::Size(rows, columns) => write!(line, "/{rows}/{columns}")?,
-            Key::Point(row, column) => write!(line, "/{row}/{column}")?,
+            Key::Point(row, column) | Key::Drag(row, column) => write!(line, "/{row}/{column}")?,
             _ => {}
         }
     }
