@@ -93,7 +93,7 @@ struct Cut {
 
 /// Leaves out the fewest glyphs at the left by which the cursor, in their column `cell`, is in the first `width` columns of a row in
 /// which `before` columns stand before them; none if its own glyph would be left out.
-fn cut(glyphs: &[Drawn<'_>], before: usize, cell: u16, width: u16) -> Option<Cut>
+fn cut_for(glyphs: &[Drawn<'_>], before: usize, cell: u16, width: u16) -> Option<Cut>
     requires some { 1 ≤ before }
     ensures within { IfSome result (λ c. c.left_out ≤ length glyphs.now) }
     ensures inside { IfSome result (λ c. (1 ≤ c.column) × (c.column ≤ width)) }
@@ -329,7 +329,7 @@ impl<D: BidiData + Drop> Document<D> {
         let width = self.width();
         let cut = match cell {
             None => None,
-            Some(cell) => cut(&found.glyphs, text.len(), cell, width),
+            Some(cell) => cut_for(&found.glyphs, text.len(), cell, width),
         };
         let left_out = match cut {
             None => 0,
