@@ -10,6 +10,7 @@ use Rattle.bx_grid.specs.Terminal.{Terminal, reads}
 use Rattle.bx_ucd.specs.Data.{Data}
 use Rattle.bx_editor.specs.Editor.{Editor}
 use Rattle.bx_editor.specs.Picture.{StandsOnItsCell}
+use Rattle.bx_editor.specs.Status.{input_column}
 use Rattle.bx_session.specs.Session.{Session, painting, picture_of, unpainted_after_byte}
 
 -- if no painting is owed, the picture last painted is the picture of the session's state, and the screen is taken to show it
@@ -32,7 +33,7 @@ pub record Paints (d : Data) (before : List ℕ) (old : Option PictureState) (ne
   pub known : new.known ≡ Some (picture_of d new.editor)
   pub is_picture : IsPicture (picture_of d new.editor)
   -- until the session's end the cursor is on the cell of its place
-  pub cursor : new.editor.ended ≡ false → StandsOnItsCell d new.editor new.editor.top (picture_of d new.editor)
+  pub cursor : new.editor.ended ≡ false → input_column d new.editor ≡ None → StandsOnItsCell d new.editor new.editor.top (picture_of d new.editor)
 
 -- bytes that paint the session's picture were appended, where `known` is the picture that the screen was taken to show, None for
 -- unknown content

@@ -116,7 +116,7 @@ impl<D: BidiData + Drop> Session<D> {
         ensures edits { OnErr result (keys.may_refuse self.old.session.editor key ≡ true) }
         ensures refused { OnErr result (result ≡ Err Refused.Edit) }
     {
-        if key == Key::Save {
+        if matches!(key, Key::Save) {
             self.end_paste()?;
         }
         let fault = self.store_for(key, store);

@@ -51,7 +51,7 @@ impl<D: BidiData + Drop> Session<D> {
         ensures edits { OnErr result (may_refuse self.old.session.editor key ≡ true) }
         ensures refused { OnErr result (result ≡ Err Refused.Edit) }
     {
-        if key == Key::Quit {
+        if matches!(key, Key::Quit) {
             self.end_paste()?;
             return self.pass_quit();
         }

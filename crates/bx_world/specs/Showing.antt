@@ -6,6 +6,7 @@ use Rattle.bx_grid.specs.Terminal.{Terminal, reads}
 use Rattle.bx_ucd.specs.Data.{Data}
 use Rattle.bx_editor.specs.Editor.{Editor}
 use Rattle.bx_editor.specs.Picture.{StandsOnItsCell, picture}
+use Rattle.bx_editor.specs.Status.{input_column}
 use Rattle.bx_session.specs.Session.{Session}
 use Rattle.bx_session.specs.Painting.{ShowsState}
 use Rattle.bx_world.specs.World.{World}
@@ -47,7 +48,7 @@ ShowsWhenRead accepted d w = accepted ≡ true → w.told ≡ true → w.line �
 
 -- unless a painting is owed or the session has ended, the cursor of that picture is on its cell
 abbrev pub CursorStands : Data → Session → Type 0
-CursorStands d s = s.painting_owed ≡ false → s.editor.ended ≡ false → StandsOnItsCell d s.editor s.editor.top (picture_of d s)
+CursorStands d s = s.painting_owed ≡ false → s.editor.ended ≡ false → input_column d s.editor ≡ None → StandsOnItsCell d s.editor s.editor.top (picture_of d s)
 
 -- ---- the invariant of all steps
 

@@ -1,0 +1,167 @@
+-- Laws of what is typed at a prompt, and of the question whether to overwrite. `d` and `e` are as in Laws.antt, `new` is the editor after a
+-- key, `line` the text of the input line that the prompt shows.
+use Rattle.std.specs.Prelude.{◌≡◌, ◌≢◌, ◌⊎◌, ◌≤◌, ◌<◌, ℕ, ◌&&◌, ◌||◌, ◌==◌, not, Bool, true, false, List, [], ◌∷◌, ◌++◌, length, take, drop, chars}
+use Rattle.std.specs.Prelude.{Option, Some, None, nat_lt}
+use Rattle.bx_common.specs.declared.base.Base.TheVariants.{Auto}
+use Rattle.bx_keys.specs.declared.key.Key.{Key}
+use Rattle.bx_keys.specs.declared.key.Key.TheVariants.{Insert, NewLine, Erase, ErasePoint, Delete, EraseWord, DeleteWord, Back, Forward, Left, Right, Save}
+use Rattle.bx_keys.specs.declared.key.Key.TheVariants.{WordLeft, WordRight, RowHome, RowEnd, Put, Up, Down, LineUp, LineDown, Select, Mark, Cut}
+use Rattle.bx_keys.specs.declared.key.Key.TheVariants.{PasteStart, PasteEnd, Copy, Cancel, Quit}
+use Rattle.bx_store.specs.declared.store.StoreFault.{StoreFault}
+use Rattle.bx_ucd.specs.Data.{Data}
+use Rattle.bx_editor.specs.declared.questions.answers.Prompt.{Prompt}
+use Rattle.bx_editor.specs.declared.questions.answers.Prompt.TheVariants as prompts
+use Rattle.bx_editor.specs.declared.search_state.SearchState.{SearchState}
+use Rattle.bx_editor.specs.declared.search_state.SearchState.TheVariants as search_states
+use Rattle.bx_editor.specs.declared.undo_groups.typing.Typing.{Typing}
+use Rattle.bx_editor.specs.declared.undo_groups.typing.Typing.TheVariants as typings
+use Rattle.bx_editor.specs.Asking.{longest_code, longest_line}
+use Rattle.bx_editor.specs.Editor.{Editor, at_start}
+use Rattle.bx_editor.specs.InputLines.{input_line_of, is_no_letter}
+use Rattle.bx_editor.specs.Keys.{after_key, is_typed, saving_of}
+use Rattle.bx_editor.specs.Saving.{Saving, Over, longest_name}
+use Rattle.bx_editor.specs.Search.{longest_query}
+use Rattle.bx_editor.specs.questions.Answers.{is_line_letter, shortened}
+use Rattle.bx_editor.specs.questions.KeyLetters.{code_letter, key_letter}
+use Rattle.bx_editor.specs.questions.Names.{is_code_letter}
+
+-- ---- letters by their keys
+
+-- The key of a letter, under the Hebrew, the Arabic or the Persian layout, answers as the letter: in the question for a character's
+-- name, and in that for its code, where nothing is pasted.
+pub record AnswersAsLetter (d : Data) (fault : Option StoreFault) (e : Editor) (c letter : ℕ) : Type 0 where
+  pub name : e.prompt ≡ prompts.Name → after_key d fault e (Insert c) ≡ after_key d fault e (Insert letter)
+  pub code : e.prompt ≡ prompts.Code → after_key d fault e (Insert c) ≡ after_key d fault e (Insert letter)
+
+abbrev pub KeysAreLetters : Type 0
+KeysAreLetters =
+    (d : Data) (fault : Option StoreFault) (e : Editor) (c letter : ℕ)
+    → key_letter c ≡ Some letter → e.pasted ≡ None → is_typed e.typing ≡ true → AnswersAsLetter d fault e c letter
+
+-- ---- a prompt keeps what is typed there
+
+-- a key that edits the input line, moves in it, or does nothing there
+abbrev pub is_of_line : Key → Bool
+is_of_line (Insert c) = true
+is_of_line NewLine = true
+is_of_line Erase = true
+is_of_line ErasePoint = true
+is_of_line Delete = true
+is_of_line EraseWord = true
+is_of_line DeleteWord = true
+is_of_line Back = true
+is_of_line Forward = true
+is_of_line Left = true
+is_of_line Right = true
+is_of_line WordLeft = true
+is_of_line WordRight = true
+is_of_line RowHome = true
+is_of_line RowEnd = true
+is_of_line Put = true
+is_of_line Up = true
+is_of_line Down = true
+is_of_line LineUp = true
+is_of_line LineDown = true
+is_of_line Select = true
+is_of_line Mark = true
+is_of_line Cut = true
+is_of_line PasteStart = true
+is_of_line PasteEnd = true
+is_of_line _ = false
+
+-- Enter: a line end that is typed, and not pasted
+abbrev pub is_enter : Typing → Key → Bool
+is_enter typing (Insert c) = (c == 0xA) && is_typed typing
+is_enter typing NewLine = is_typed typing
+is_enter typing _ = false
+
+-- a search, or a question, that is on stays on
+pub record StaysAsked (e new : Editor) : Type 0 where
+  pub search : e.search_state ≢ search_states.Off → new.search_state ≢ search_states.Off
+  pub question : e.prompt ≢ prompts.Off → new.prompt ≢ prompts.Off
+
+-- such a key changes no text while an input line is shown, and ends no search and no question
+pub record KeepsPrompt (e new : Editor) : Type 0 where
+  pub text : new.content ≡ e.content
+  pub asked : StaysAsked e new
+
+abbrev pub LineKeysKeepPrompt : Type 0
+LineKeysKeepPrompt =
+    (d : Data) (fault : Option StoreFault) (e : Editor) (line : List ℕ) (key : Key)
+    → input_line_of e ≡ Some line → e.pasted ≡ None → is_of_line key ≡ true → is_enter e.typing key ≡ false
+    → KeepsPrompt e (after_key d fault e key)
+
+-- ---- an input line is a text of one line
+
+-- the line as a text of its own: in a window of 500 columns, with no direction set, and the cursor at its place
+abbrev pub as_text : Editor → List ℕ → Editor
+as_text e line = record (at_start line 2 500 Auto) { place = e.input_cursor }
+
+-- a key that edits the line or moves in it as in a text: all such keys but Erase and ErasePoint
+abbrev pub is_as_in_text : Key → Bool
+is_as_in_text Delete = true
+is_as_in_text EraseWord = true
+is_as_in_text DeleteWord = true
+is_as_in_text Back = true
+is_as_in_text Forward = true
+is_as_in_text Left = true
+is_as_in_text Right = true
+is_as_in_text WordLeft = true
+is_as_in_text WordRight = true
+is_as_in_text RowHome = true
+is_as_in_text RowEnd = true
+is_as_in_text _ = false
+
+-- the input line and its cursor are those of a text and its cursor
+pub record IsText (text new : Editor) : Type 0 where
+  pub line : input_line_of new ≡ Some text.content.text
+  pub cursor : new.input_cursor ≡ text.place
+
+-- the query or the replacement is the latest one still: a letter begins a new one
+abbrev pub is_begun : Prompt → SearchState → Bool
+is_begun prompts.Off search_states.Begun = true
+is_begun prompts.Off search_states.WithBegun = true
+is_begun _ _ = false
+
+-- the most characters of the input line
+abbrev pub room_of : Prompt → ℕ
+room_of prompts.Line = longest_line
+room_of prompts.Code = longest_code
+room_of prompts.File = longest_name
+room_of _ = longest_query
+
+-- a character that the input line takes
+abbrev pub takes : Data → Prompt → ℕ → Bool
+takes d prompts.Line c = is_line_letter c
+takes d prompts.Code c = is_code_letter c
+takes d _ c = not (is_no_letter d c || (c == 0xA))
+
+-- keys in the line: those above, and a character that the line takes and has room for
+pub record KeepsLine (d : Data) (e : Editor) (line : List ℕ) : Type 0 where
+  pub key : (fault : Option StoreFault) (key : Key) → is_as_in_text key ≡ true
+      → IsText (after_key d None (as_text e line) key) (after_key d fault e key)
+  pub letter : (fault : Option StoreFault) (c : ℕ) → is_begun e.prompt e.search_state ≡ false → takes d e.prompt c ≡ true
+      → length (chars line) < room_of e.prompt → is_typed e.typing ≡ true → (c == 0x9) ≡ false
+      → IsText (after_key d None (as_text e line) (Insert c)) (after_key d fault e (Insert c))
+  pub erase : (fault : Option StoreFault) → take e.input_cursor line ≢ []
+      → input_line_of (after_key d fault e Erase) ≡ Some (shortened (take e.input_cursor line) ++ drop e.input_cursor line)
+
+abbrev pub LineIsText : Type 0
+LineIsText =
+    (d : Data) (e : Editor) (line : List ℕ) → input_line_of e ≡ Some line → e.pasted ≡ None → length line ≤ 1020 → KeepsLine d e line
+
+-- ---- no Save overwrites what another program wrote
+
+-- a letter that the question whether to overwrite takes
+abbrev pub is_decision : Key → Bool
+is_decision (Insert c) = true
+is_decision _ = false
+
+-- the text is stored over what another program wrote by no key but a letter that answers that question; and any other key ends the question
+pub record OverwritesByAnswer (d : Data) (fault : Option StoreFault) (e : Editor) (key : Key) : Type 0 where
+  pub asked : saving_of e key ≡ Some Over → e.prompt ≡ prompts.Overwrite
+  pub decided : saving_of e key ≡ Some Over → is_decision key ≡ true
+  pub save : saving_of e Save ≢ Some Over
+
+abbrev pub OnlyAnswersOverwrite : Type 0
+OnlyAnswersOverwrite = (d : Data) (fault : Option StoreFault) (e : Editor) (key : Key) → OverwritesByAnswer d fault e key
