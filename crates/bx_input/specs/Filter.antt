@@ -5,6 +5,8 @@ use Rattle.std.specs.Str.{bytes_eq}
 use Rattle.bx_bytes.specs.Pattern.{is_within}
 use Rattle.bx_bytes.specs.declared.fate.Fate.{Fate}
 use Rattle.bx_bytes.specs.declared.fate.Fate.TheVariants.{Waits, Ends, Breaks}
+use Rattle.bx_input.specs.declared.pause.Pause.{Pause}
+use Rattle.bx_input.specs.declared.pause.Pause.TheVariants as pauses
 use Rattle.bx_input.specs.Known.{fate, becomes_of}
 use Rattle.bx_input.specs.Table.{csi, paste_end, start_told, end_told}
 use Rattle.bx_input.specs.Paste.{pasted_byte, pasted_part, paste_fate}
@@ -19,14 +21,15 @@ pub data State : Type 0 where
 abbrev pub start : State
 start = Outside [] false
 
--- a filter, which was told whether the terminal's own erase character is DELETE
+-- a filter, which was told whether the terminal's own erase character is DELETE, and when there was a pause in typing
 pub record Filtering : Type 0 where
   pub erases_by_delete : Bool
   pub state : State
+  pub pause : Pause
 
 -- a filter in this state
-abbrev pub filtering : Bool → State → Filtering
-filtering erases_by_delete state = record { erases_by_delete = erases_by_delete; state = state }
+abbrev pub filtering : Bool → State → Pause → Filtering
+filtering erases_by_delete state pause = record { erases_by_delete = erases_by_delete; state = state; pause = pause }
 
 -- the state after bytes, and their output
 pub record Step : Type 0 where
@@ -121,13 +124,33 @@ abbrev pub at_end : State → List ℕ
 at_end (Outside waiting is_open) = waiting
 at_end (Within waiting after_return) = pasted_part waiting
 
--- time goes by after the last byte: an Escape that waits alone, or behind another, is the key Cancel, and all else goes on waiting
-abbrev pub idle : State → Step
-idle (Outside waiting is_open) =
+-- an Escape waits alone in a paste
+abbrev pub is_lone_escape : State → Bool
+is_lone_escape (Outside waiting is_open) = false
+is_lone_escape (Within waiting after_return) = bytes_eq waiting (0x1B ∷ [])
+
+-- the pause that counts after a byte: one right before an Escape that waits alone in a paste
+abbrev pub before_escape : Pause → Pause
+before_escape pauses.Behind = pauses.Before
+before_escape _ = pauses.No
+
+abbrev pub pause_after : Pause → State → Pause
+pause_after pause state = if is_lone_escape state then before_escape pause else pauses.No
+
+-- a pause came right before
+abbrev pub is_before : Pause → Bool
+is_before pauses.Before = true
+is_before _ = false
+
+-- Time goes by after the last byte. An Escape that waits alone, or behind another, is the key Cancel; in a paste, one with a pause
+-- before it ends the paste. All else goes on waiting.
+abbrev pub idle : Pause → State → Step
+idle pause (Outside waiting is_open) =
     if bytes_eq waiting (0x1B ∷ []) then step_to start (csi (codes "93~"))
     else if bytes_eq waiting (0x1B ∷ 0x1B ∷ []) then step_to start (0x1B ∷ csi (codes "93~"))
     else step_to (Outside waiting is_open) []
-idle (Within waiting after_return) = step_to (Within waiting after_return) []
+idle pause (Within waiting after_return) =
+    if is_lone_escape (Within waiting after_return) && is_before pause then step_to start end_told else step_to (Within waiting after_return) []
 
 -- a paste is under way
 abbrev pub is_in_paste : State → Bool
@@ -148,3 +171,15 @@ module _ (erases_by_delete : Bool) where
   -- the output for a whole input
   abbrev pub filtered : List ℕ → List ℕ
   filtered bs = let all = run start bs in all.output ++ at_end all.state
+
+-- ---- a filter, and a byte or a pause
+
+abbrev pub fed : Filtering → ℕ → Filtering
+fed f b = let s = step f.erases_by_delete f.state b in filtering f.erases_by_delete s.state (pause_after f.pause s.state)
+
+abbrev pub idled : Filtering → Filtering
+idled f = filtering f.erases_by_delete (idle f.pause f.state).state pauses.Behind
+
+-- a filter at the start of its input
+abbrev pub started : Bool → Filtering
+started erases_by_delete = filtering erases_by_delete start pauses.No

@@ -3,7 +3,7 @@
 use Rattle.std.specs.Prelude.{ℕ, ◌+◌, ◌*◌, Bool, true, false, ◌==◌, List, [], ◌∷◌, ◌++◌, codes, decimal, Option, Some, None, if◌then◌else◌}
 use Rattle.bx_keys.specs.Keys.{head_of, rest_after}
 use Rattle.bx_input.specs.Table.{csi}
-use Rattle.bx_input.specs.Filter.{State, Filtering, filtering, start, step, idle, is_in_paste, at_end}
+use Rattle.bx_input.specs.Filter.{Filtering, started, step, fed, idle, idled, is_in_paste, at_end}
 use Rattle.bx_input.specs.Frames.{Frame}
 use Rattle.bx_input.specs.declared.translator.Size as sizes
 
@@ -30,7 +30,7 @@ pub record Translated : Type 0 where
 
 -- the translation at the start of the input
 abbrev pub begun : Bool → Translating
-begun erases_by_delete = record { filter = filtering erases_by_delete start; rest = []; size = None; notice = None }
+begun erases_by_delete = record { filter = started erases_by_delete; rest = []; size = None; notice = None }
 
 -- a second step after a first, with the outputs of both
 abbrev pub and_then : Translated → (Translating → Translated) → Translated
@@ -83,24 +83,22 @@ settled t = if is_none t.rest then with_waiting t else sent t []
 
 -- ---- a frame
 
--- the filter goes to a state
-abbrev pub with_state : Translating → State → Translating
-with_state t state = record t { filter = filtering t.filter.erases_by_delete state }
-
 -- a typed byte goes through the filter
 abbrev pub after_typed : ℕ → Translating → Translated
 after_typed b t =
     let s = step t.filter.erases_by_delete t.filter.state b in
-    and_then (sent (with_state t s.state) s.output) settled
+    and_then (sent (record t { filter = fed t.filter b }) s.output) settled
 
 -- typed bytes, one after another
 abbrev pub after_all_typed : List ℕ → Translating → Translated
 after_all_typed [] t = sent t []
 after_all_typed (b ∷ bs) t = and_then (after_typed b t) (after_all_typed bs)
 
--- time goes by after the last typed byte: a lone Escape is a key, and what waits for a key's end waits no longer
+-- time goes by after the last typed byte: a lone Escape is a key, or ends a paste, and what waits for a key's end waits no longer
 abbrev pub after_idle : Translating → Translated
-after_idle t = let s = idle t.filter.state in and_then (sent (with_state t s.state) s.output) with_waiting
+after_idle t =
+    let s = idle t.filter.pause t.filter.state in
+    and_then (sent (record t { filter = idled t.filter }) s.output) with_waiting
 
 -- a size that is told, in four bytes; a number of bytes that is none of a size changes nothing
 abbrev pub after_size : List ℕ → Translating → Translated
@@ -123,4 +121,4 @@ after_frame f t =
 
 -- the input's end: what waits in the filter goes to the session
 abbrev pub after_end : Translating → Translated
-after_end t = sent (with_state t start) (at_end t.filter.state)
+after_end t = sent (record t { filter = started t.filter.erases_by_delete }) (at_end t.filter.state)

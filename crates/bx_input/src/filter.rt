@@ -3,12 +3,14 @@
 
 ghost use Rattle.std.specs.Prelude.{◌≡◌};
 ghost use Rattle.bx_input.specs.Filter as spec;
-ghost use Rattle.bx_input.specs.Filter.{filtering};
-ghost use Rattle.bx_input.specs.Models.{bytes_of};
+ghost use Rattle.bx_input.specs.Filter.{fed, idled, pause_after, started};
+ghost use Rattle.bx_input.specs.Models.{bytes_of, state_of};
 
 use crate::beginning::Beginning;
 use crate::filter_state::FilterState;
 use crate::output::{Output, numbers_alone, plain};
+use crate::paste_tail::PasteTail;
+use crate::pause::Pause;
 use crate::step::step;
 use std::marker::Model;
 
@@ -19,6 +21,31 @@ pub struct Filter {
     erases_by_delete: bool,
     /// What waits, outside a paste or within one.
     state: FilterState,
+    /// When there was a pause.
+    pause: Pause,
+}
+
+/// Outside a paste, with nothing waiting.
+fn start() -> FilterState
+    ensures { state_of result ≡ spec.start }
+{
+    FilterState::Outside {
+        waiting: Beginning::Nothing,
+        is_open: false,
+    }
+}
+
+/// The pause that counts after a byte that led to this state: one right before an ESC that waits alone in a paste.
+fn pause_after(pause: Pause, state: &FilterState) -> Pause
+    ensures { result ≡ pause_after pause (state_of state.now) }
+{
+    match state {
+        FilterState::Within {
+            waiting: PasteTail::Escape,
+            ..
+        } if matches!(pause, Pause::Behind) => Pause::Before,
+        _ => Pause::No,
+    }
 }
 
 impl Model for Filter {
@@ -27,53 +54,61 @@ impl Model for Filter {
 
     ghost Value = { Filtering };
 
-    ghost view = { λ f. filtering f.erases_by_delete (state_of f.state) };
+    ghost view = { λ f. filtering f.erases_by_delete (state_of f.state) f.pause };
 }
 
 impl Filter {
     /// A filter at the start of its input. `erases_by_delete` says whether the terminal's own erase character is DELETE, 7F.
     pub fn new(erases_by_delete: bool) -> Filter
-        ensures { result ≡ filtering erases_by_delete spec.start }
+        ensures { result ≡ started erases_by_delete }
     {
         Filter {
             erases_by_delete,
-            state: FilterState::Outside {
-                waiting: Beginning::Nothing,
-                is_open: false,
-            },
+            state: start(),
+            pause: Pause::No,
         }
     }
 
     /// Reads the next byte and returns its output: nothing while what has come may be the beginning of a longer sequence.
     pub fn feed(&mut self, byte: u8) -> Output
-        ensures state { self.new ≡ filtering self.old.erases_by_delete (spec.step self.old.erases_by_delete self.old.state byte).state }
+        ensures state { self.new ≡ fed self.old byte }
         ensures output { bytes_of result ≡ (spec.step self.old.erases_by_delete self.old.state byte).output }
     {
         let (state, output) = step(self.erases_by_delete, &self.state, byte);
+        self.pause = pause_after(self.pause, &state);
         self.state = state;
         output
     }
 
-    /// Takes note that nothing follows for a while: an Escape that waits alone, or behind another, is the key Cancel, whose
-    /// sequence is returned. All else that waits goes on waiting.
+    /// Takes note that nothing follows for a while. An Escape that waits alone, or behind another, is the key Cancel, whose sequence
+    /// is returned; in a paste, one with a pause before it ends the paste. All else that waits goes on waiting.
     pub fn idle(&mut self) -> &'static [u8]
-        ensures state { self.new ≡ filtering self.old.erases_by_delete (spec.idle self.old.state).state }
-        ensures output { result.now ≡ (spec.idle self.old.state).output }
+        ensures state { self.new ≡ idled self.old }
+        ensures output { result.now ≡ (spec.idle self.old.pause self.old.state).output }
     {
+        let pause = self.pause;
+        self.pause = Pause::Behind;
         match self.state {
             FilterState::Outside {
                 waiting: Beginning::Escape,
                 ..
             } => {
-                *self = Filter::new(self.erases_by_delete);
+                self.state = start();
                 b"\x1b[93~"
             }
             FilterState::Outside {
                 waiting: Beginning::TwoEscapes,
                 ..
             } => {
-                *self = Filter::new(self.erases_by_delete);
+                self.state = start();
                 b"\x1b\x1b[93~"
+            }
+            FilterState::Within {
+                waiting: PasteTail::Escape,
+                ..
+            } if matches!(pause, Pause::Before) => {
+                self.state = start();
+                b"\x1b[91~"
             }
             _ => b"",
         }
@@ -88,7 +123,7 @@ impl Filter {
 
     /// Ends the input: returns the output of the bytes that still wait, and resets the filter.
     pub fn finish(&mut self) -> Output
-        ensures state { self.new ≡ filtering self.old.erases_by_delete spec.start }
+        ensures state { self.new ≡ started self.old.erases_by_delete }
         ensures output { bytes_of result ≡ spec.at_end self.old.state }
     {
         let rest = match &self.state {
@@ -108,6 +143,7 @@ impl Filter {
         Filter {
             erases_by_delete: self.erases_by_delete,
             state: self.state.copied(),
+            pause: self.pause,
         }
     }
 }

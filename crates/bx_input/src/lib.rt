@@ -23,6 +23,7 @@ mod mouse;
 mod numbers;
 mod output;
 mod paste_tail;
+mod pause;
 mod sizes;
 mod step;
 mod translator;

@@ -18,6 +18,26 @@ a_size_cuts_no_letter = refl
 pub an_escape_alone_is_a_key : heard (codes "b\0\u{2}a\u{1b}i\0\0b\0\u{2}[D") (begun false) ≡ codes "a\u{1b}[93~[D"
 an_escape_alone_is_a_key = refl
 
+-- in a paste, an Escape with a pause before it and one behind it ends the paste
+pub an_escape_alone_ends_a_paste : heard (codes "b\0\u{7}\u{1b}[200~ai\0\0b\0\u{1}\u{1b}i\0\0b\0\u{2}b\r") (begun false) ≡ codes "\u{1b}[90~a\u{1b}[91~b\u{1b}[95~"
+an_escape_alone_ends_a_paste = refl
+
+pub only_a_pause_before : heard (codes "b\0\u{7}\u{1b}[200~ai\0\0b\0\u{8}\u{1b}b\u{1b}[201~") (begun false) ≡ codes "\u{1b}[90~ab\u{1b}[91~"
+only_a_pause_before = refl
+
+pub only_a_pause_behind : heard (codes "b\0\u{8}\u{1b}[200~a\u{1b}i\0\0b\0\u{7}b\u{1b}[201~") (begun false) ≡ codes "\u{1b}[90~ab\u{1b}[91~"
+only_a_pause_behind = refl
+
+pub no_escape_alone : heard (codes "b\0\u{7}\u{1b}[200~ai\0\0b\0\u{3}\u{1b}[Ai\0\0b\0\u{6}\u{1b}[201~") (begun false) ≡ codes "\u{1b}[90~a[A\u{1b}[91~"
+no_escape_alone = refl
+
+-- a pause before the paste does not count
+pub a_pause_before_the_paste : heard (codes "i\0\0b\0\u{7}\u{1b}[200~\u{1b}i\0\0b\0\u{7}b\u{1b}[201~") (begun false) ≡ codes "\u{1b}[90~b\u{1b}[91~"
+a_pause_before_the_paste = refl
+
+pub a_pause_in_a_letter : heard (codes "b\0\u{7}\u{1b}[200~" ++ 0xD7 ∷ (codes "i\0\0b\0\u{1}" ++ 0x90 ∷ [])) (begun false) ≡ codes "\u{1b}[90~" ++ 0xD7 ∷ 0x90 ∷ []
+a_pause_in_a_letter = refl
+
 -- a notice waits for the end of a paste
 pub a_notice_comes_behind_a_paste : heard (codes "b\0\u{7}\u{1b}[200~an\0\u{1}\u{3}b\0\u{7}b\u{1b}[201~") (begun false)
     ≡ codes "\u{1b}[90~ab\u{1b}[91~\u{1b}[>3~"
