@@ -10,17 +10,19 @@ use Rattle.bx_rows.specs.RowStarts.{first_offset}
 use Rattle.bx_paragraph.specs.declared.moves.Visual.{Visual}
 use Rattle.bx_paragraph.specs.BodyRows.{last_offset}
 use Rattle.bx_paragraph.specs.Slots.{beside, entry, or_else, reading_end, reading_start, reads_on}
+use Rattle.bx_view.specs.declared.moves.Goal.{Goal}
+use Rattle.bx_view.specs.declared.moves.Goal.TheVariants as goals
 use Rattle.bx_view.specs.declared.moves.Logical.{Logical}
 use Rattle.bx_view.specs.declared.moves.Logical.TheVariants.{Back, Forward}
 use Rattle.bx_view.specs.declared.moves.Move.{Move}
 use Rattle.bx_view.specs.declared.moves.Move.TheVariants as moves
 use Rattle.bx_view.specs.declared.moves.Vertical.{Vertical}
 use Rattle.bx_view.specs.declared.moves.Vertical.TheVariants.{Down}
-use Rattle.bx_view.specs.Moves.{end_of, entry_in, past, place_at, place_from, place_in, row_after, row_away}
+use Rattle.bx_view.specs.Moves.{end_of, entry_in, goal_in, past, place_at, place_from, place_in, row_after, row_away, to_row}
 use Rattle.bx_view.specs.Moved.{is_to_row_end, moved}
 use Rattle.bx_view.specs.Moves.{row_before, row_end, row_home, rows_away, start_of, step_logical, step_visual, word_way}
 use Rattle.bx_view.specs.Laws.{MovesKeep}
-use Rattle.bx_view.specs.Top.{pointed_at, pointed_row, follow, nearest_top}
+use Rattle.bx_view.specs.Top.{pointed_at, pointed_row, follow, nearest_row, nearest_top, to_shown}
 use Rattle.bx_view.specs.TextRows.{TextRow, cell_of, first, no_text_row, places, row_at, row_of}
 use Rattle.bx_view.specs.Words.{step_word, text_stops}
 use Rattle.bx_view.proofs.KeptRows.{away-within}
@@ -117,16 +119,6 @@ module _ (ucd : Data) (text : List ℕ) (w : ℕ) (rows : List TextRow) (P : ℕ
       let r = row_at rows k in
       in-row-lies r (entry w r.row column) (entry-fits (λ o. P (r.start + o)) w r.row (row-lies k within) column)
 
-  to-row-at : (same : Bool) (column place k : ℕ) → k < length rows → P place
-      → P (elim same [ true ↦ place | false ↦ unwrap_or (entry_in w (row_at rows k) column) place ])
-  to-row-at true column place k within b = b
-  to-row-at false column place k within b = else-lies (entry_in w (row_at rows k) column) place (kept-entry k column within) b
-
-  kept-rows_away : (way : Vertical) (n column place : ℕ) → P place → P (rows_away w rows way n column place)
-  kept-rows_away way n column place b =
-      let k = row_away (length rows) way n (row_of rows place) in
-      to-row-at (k == row_of rows place) column place k (away-within (length rows) way n (row_of rows place) (own-row place)) b
-
   entered : (o : Option ℕ) → Lies P o → IfSome o P
   entered None a = tt
   entered (Some o) a = a
@@ -144,6 +136,24 @@ module _ (ucd : Data) (text : List ℕ) (w : ℕ) (rows : List TextRow) (P : ℕ
   kept-row_end offset =
       let r = row_at rows (row_of rows offset) in last-fits (λ o. P (r.start + o)) w r.row (row-lies (row_of rows offset) (own-row offset))
 
+  goal-lies : (k : ℕ) (goal : Goal) → k < length rows → Lies P (goal_in w (row_at rows k) goal)
+  goal-lies k (goals.Column column) within = kept-entry k column within
+  goal-lies k goals.Start within = first-kept k within
+  goal-lies k goals.End within = let r = row_at rows k in last-fits (λ o. P (r.start + o)) w r.row (row-lies k within)
+
+  to-row-at : (same : Bool) (goal : Goal) (place k : ℕ) → k < length rows → P place
+      → P (elim same [ true ↦ place | false ↦ unwrap_or (goal_in w (row_at rows k) goal) place ])
+  to-row-at true goal place k within b = b
+  to-row-at false goal place k within b = else-lies (goal_in w (row_at rows k) goal) place (goal-lies k goal within) b
+
+  kept-to_row : (goal : Goal) (place k : ℕ) → k < length rows → P place → P (to_row w rows goal place k)
+  kept-to_row goal place k within b = to-row-at (k == row_of rows place) goal place k within b
+
+  kept-rows_away : (way : Vertical) (n : ℕ) (goal : Goal) (place : ℕ) → P place → P (rows_away w rows way n goal place)
+  kept-rows_away way n goal place b =
+      let k = row_away (length rows) way n (row_of rows place) in
+      kept-to_row goal place k (away-within (length rows) way n (row_of rows place) (own-row place)) b
+
   kept-word : (way : Logical) (place : ℕ) → P place → P (step_word ucd text way place)
   kept-word Forward place b =
       else-lies (find (nat_lt place) (text_stops ucd Forward text)) place
@@ -155,8 +165,8 @@ module _ (ucd : Data) (text : List ℕ) (w : ℕ) (rows : List TextRow) (P : ℕ
   kept-moved : (m : Move) (place : ℕ) → P place → P (moved ucd text w rows m place)
   kept-moved (moves.Logical way) place b = kept-step_logical way place b
   kept-moved (moves.Visual side) place b = kept-step_visual side place b
-  kept-moved (moves.Rows way n) place b = kept-rows_away way n (cell_of w rows place) place b
-  kept-moved (moves.RowsIn way n column) place b = kept-rows_away way n column place b
+  kept-moved (moves.Rows way n) place b = kept-rows_away way n (goals.Column (cell_of w rows place)) place b
+  kept-moved (moves.RowsIn way n goal) place b = kept-rows_away way n goal place b
   kept-moved moves.RowHome place b = kept-row_home place
   kept-moved moves.RowEnd place b = kept-row_end place
   kept-moved (moves.Word way) place b = kept-word way place b
@@ -169,6 +179,12 @@ module _ (ucd : Data) (text : List ℕ) (w : ℕ) (rows : List TextRow) (P : ℕ
       let above = own-row top in
       let below = own-row place in
       first-kept (nearest_top (row_of rows top) (row_of rows place) t) (omega (arith, above, below, shown))
+
+  kept-to_shown : (top t : ℕ) (goal : Goal) (place : ℕ) → P place → P (to_shown w rows top t goal place)
+  kept-to_shown top t goal place b =
+      let above = own-row top in
+      let below = own-row place in
+      kept-to_row goal place (nearest_row (row_of rows top) (row_of rows place) t) (omega (arith, above, below)) b
 
   kept-pointed_at : (top r column : ℕ) → P (pointed_at w rows top r column)
   kept-pointed_at top r column =
@@ -184,14 +200,15 @@ module _ (ucd : Data) (text : List ℕ) (w : ℕ) (rows : List TextRow) (P : ℕ
     moved = kept-moved;
     logical = kept-step_logical;
     visual = kept-step_visual;
-    vertical = λ way place b. kept-rows_away way 1 (cell_of w rows place) place b;
-    page = λ way t place b. kept-rows_away way t (cell_of w rows place) place b;
+    vertical = λ way place b. kept-rows_away way 1 (goals.Column (cell_of w rows place)) place b;
+    page = λ way t place b. kept-rows_away way t (goals.Column (cell_of w rows place)) place b;
     word = kept-word;
     entry = λ k column within. entered (entry_in w (row_at rows k) column) (kept-entry k column within);
     home = kept-row_home;
     end = kept-row_end;
     top = kept-follow;
     pointed = kept-pointed_at;
+    shown = kept-to_shown;
   }
 
 -- ---- where a move leads to
@@ -207,7 +224,7 @@ module _ (ucd : Data) (text : List ℕ) (w : ℕ) (rows : List TextRow) (P : ℕ
   row-end-keeps (moves.Logical way) e h = absurd (cc)
   row-end-keeps (moves.Visual side) e h = absurd (cc)
   row-end-keeps (moves.Rows way n) e h = absurd (cc)
-  row-end-keeps (moves.RowsIn way n column) e h = absurd (cc)
+  row-end-keeps (moves.RowsIn way n goal) e h = absurd (cc)
   row-end-keeps (moves.Word way) e h = absurd (cc)
   row-end-keeps (moves.WordTowards side) e h = absurd (cc)
   row-end-keeps moves.TextStart e h = absurd (cc)

@@ -3,7 +3,8 @@ use Rattle.std.proofs.Common.{◌≡◌, ◌≢◌, ℕ, ◌<◌, ◌≤◌, tru
 use Rattle.std.proofs.Common.{arith, ⊎_elim, eq-eqb, ne_eqb}
 use Rattle.std.proofs.lemmas.Bool.{cases_lt}
 use Rattle.std.proofs.lemmas.List.{length-map}
-use Rattle.bx_view.specs.Moves.{entry_in, to_row}
+use Rattle.bx_view.specs.declared.moves.Goal.{Goal}
+use Rattle.bx_view.specs.Moves.{goal_in, to_row}
 use Rattle.bx_view.specs.TextRows.{TextRow, first, row_at, row_of}
 use Rattle.bx_view.proofs.Rising.{rank-few}
 
@@ -26,16 +27,16 @@ module _ (rows : List TextRow) (rise : (n m : ℕ) → n < m → m < length rows
 
   -- ---- to a row
 
-  module _ (w column place k : ℕ) where
+  module _ (w : ℕ) (goal : Goal) (place k : ℕ) where
     abbrev own : ℕ
     own = row_of rows place
 
-    pub to-own : k < length rows → own < length rows → begins k ≡ begins own → place ≡ to_row w rows column place k
-    to-own a b e = sym (ap (λ t. elim t [ true ↦ place | false ↦ unwrap_or (entry_in w (row_at rows k) column) place ])
+    pub to-own : k < length rows → own < length rows → begins k ≡ begins own → place ≡ to_row w rows goal place k
+    to-own a b e = sym (ap (λ t. elim t [ true ↦ place | false ↦ unwrap_or (goal_in w (row_at rows k) goal) place ])
         (eq-eqb k own (same-row k own a b e)))
 
-    pub to-other : (p : Option ℕ) → begins k ≢ begins own → p ≡ entry_in w (row_at rows k) column → unwrap_or p place ≡ to_row w rows column place k
+    pub to-other : (p : Option ℕ) → begins k ≢ begins own → p ≡ goal_in w (row_at rows k) goal → unwrap_or p place ≡ to_row w rows goal place k
     to-other p e f =
         ap (λ o. unwrap_or o place) f
-        ∙ sym (ap (λ t. elim t [ true ↦ place | false ↦ unwrap_or (entry_in w (row_at rows k) column) place ])
+        ∙ sym (ap (λ t. elim t [ true ↦ place | false ↦ unwrap_or (goal_in w (row_at rows k) goal) place ])
         (ne_eqb k own (λ same. e (ap begins same))))

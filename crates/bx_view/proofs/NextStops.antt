@@ -12,10 +12,12 @@ use Rattle.bx_text.specs.index.Paragraphs.{Paragraph, lengths_of, bytes_of}
 use Rattle.bx_view.specs.declared.moves.Logical.{Logical}
 use Rattle.bx_view.specs.declared.moves.Logical.TheVariants.{Back, Forward}
 use Rattle.bx_view.specs.Laws.{IsGreatestBefore, IsLeastBehind}
-use Rattle.bx_view.specs.Words.{body_stops, body_words, is_of_word, put_if, stops_from, word_starts}
+use Rattle.bx_view.specs.declared.moves.unit_kind.UnitKind.{UnitKind}
+use Rattle.bx_view.specs.declared.moves.unit_kind.UnitKind.TheVariants.{Other}
+use Rattle.bx_view.specs.Words.{begins_word, body_stops, body_words, kind_of, put_if, stops_from, word_starts}
 use Rattle.bx_view.proofs.Parts.{AreUtf8}
 use Rattle.bx_view.proofs.Within.{Within, within-append}
-use Rattle.bx_view.proofs.WordParts.{all-fail, put-within, within-weaker}
+use Rattle.bx_view.proofs.WordParts.{all-fail, put-within, within-weaker, words-from}
 use Rattle.bx_view.proofs.WordStops.{from-on, moved-within, own-upto, words-within}
 
 -- ---- ascending offsets
@@ -43,25 +45,19 @@ ascends-put false at os on a = a
 
 -- ---- the stops of a text
 
-words-on : (ucd : Data) (inside : Bool) (at : ℕ) (us : List (List ℕ)) → Within (λ o. at ≤ o) (word_starts ucd inside at us)
-words-on ucd inside at [] = tt
-words-on ucd inside at (u ∷ us) =
-    let rest = word_starts ucd (is_of_word ucd u) (at + length u) us in
-    let on = within-weaker (λ o. at + length u ≤ o) (λ o. at ≤ o) (λ o h. omega (arith, h)) rest (words-on ucd (is_of_word ucd u) (at + length u) us) in
-    put-within (λ o. at ≤ o) (is_of_word ucd u && not inside) at rest (omega arith) on
-
-words-ascend : (ucd : Data) (inside : Bool) (at : ℕ) (us : List (List ℕ)) → Ascends (word_starts ucd inside at us)
-words-ascend ucd inside at [] = tt
-words-ascend ucd inside at (u ∷ us) =
-    let rest = word_starts ucd (is_of_word ucd u) (at + length u) us in
-    let on = within-weaker (λ o. at + length u ≤ o) (λ o. at ≤ o) (λ o h. omega (arith, h)) rest (words-on ucd (is_of_word ucd u) (at + length u) us) in
-    ascends-put (is_of_word ucd u && not inside) at rest on (words-ascend ucd (is_of_word ucd u) (at + length u) us)
+words-ascend : (ucd : Data) (s f : UnitKind) (at : ℕ) (us : List (List ℕ)) → Ascends (word_starts ucd s f at us)
+words-ascend ucd s f at [] = tt
+words-ascend ucd s f at (u ∷ us) =
+    let k = kind_of ucd u in
+    let rest = word_starts ucd f k (at + length u) us in
+    let on = within-weaker (λ o. at + length u ≤ o) (λ o. at ≤ o) (λ o h. omega (arith, h)) rest (words-from ucd f k (at + length u) us) in
+    ascends-put (begins_word s f k) at rest on (words-ascend ucd f k (at + length u) us)
 
 body-ascends : (ucd : Data) (way : Logical) (body : List ℕ) → IsUtf8 body → Ascends (body_stops ucd way body)
 body-ascends ucd Forward body utf8 =
-    ascends-append (body_words ucd body) (length body ∷ []) (length body) (words-ascend ucd false 0 (graphemes true body)) (tt, tt)
+    ascends-append (body_words ucd body) (length body ∷ []) (length body) (words-ascend ucd Other Other 0 (graphemes true body)) (tt, tt)
     (words-within ucd body utf8) (omega arith, tt)
-body-ascends ucd Back body utf8 = (words-on ucd false 0 (graphemes true body), words-ascend ucd false 0 (graphemes true body))
+body-ascends ucd Back body utf8 = (words-from ucd Other Other 0 (graphemes true body), words-ascend ucd Other Other 0 (graphemes true body))
 
 pub stops-ascend : (ucd : Data) (way : Logical) (start : ℕ) (ps : List Paragraph) → AreUtf8 ps → Ascends (stops_from ucd way start ps)
 stops-ascend ucd way start [] u = tt

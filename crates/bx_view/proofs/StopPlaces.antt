@@ -1,5 +1,5 @@
 -- The stops of words are places: a property of all places is one of all stops.
-use Rattle.std.proofs.Common.{◌≡◌, ℕ, ◌+◌, ◌≤◌, not, ◌&&◌, Bool, true, false, List, [], ◌∷◌, ◌++◌, map, length, IsUtf8, refl, ap, subst, ◌∙◌}
+use Rattle.std.proofs.Common.{◌≡◌, ℕ, ◌+◌, ◌≤◌, true, List, [], ◌∷◌, ◌++◌, map, length, IsUtf8, refl, ap, subst, ◌∙◌}
 use Rattle.bx_ucd.specs.Data.{Data}
 use Rattle.unicode_segmentation.specs.Grapheme.{graphemes}
 use Rattle.unicode_segmentation.specs.Segments.{with_offsets}
@@ -11,7 +11,9 @@ use Rattle.bx_rows.specs.RowStarts.{first_offset}
 use Rattle.bx_view.specs.declared.moves.Logical.{Logical}
 use Rattle.bx_view.specs.declared.moves.Logical.TheVariants.{Back, Forward}
 use Rattle.bx_view.specs.TextRows.{TextRow, places, text_row, text_rows}
-use Rattle.bx_view.specs.Words.{body_stops, is_of_word, stops_from, word_starts}
+use Rattle.bx_view.specs.declared.moves.unit_kind.UnitKind.{UnitKind}
+use Rattle.bx_view.specs.declared.moves.unit_kind.UnitKind.TheVariants.{Other}
+use Rattle.bx_view.specs.Words.{begins_word, body_stops, kind_of, stops_from, word_starts}
 use Rattle.bx_view.proofs.RowsAround.{from, own}
 use Rattle.bx_view.proofs.BodyFirsts.{none-in, starts_of}
 use Rattle.bx_view.proofs.KeptMoves.{EndsLie}
@@ -40,13 +42,13 @@ moved-out P start (o ∷ os) a = (a.0, moved-out P start os a.1)
 
 -- ---- the stops of a body
 
-starts-within : (P : ℕ → Type 0) (ucd : Data) (w : ℕ) (b : Bool) (at : ℕ) (gs : List (List ℕ))
-    → Within P (starts_of (map (unit_at ucd w) (with_offsets at gs))) → Within P (word_starts ucd b at gs)
+starts-within : (P : ℕ → Type 0) (ucd : Data) (w : ℕ) (s f : UnitKind) (at : ℕ) (gs : List (List ℕ))
+    → Within P (starts_of (map (unit_at ucd w) (with_offsets at gs))) → Within P (word_starts ucd s f at gs)
 unfolding with_offsets
-starts-within P ucd w b at [] a = tt
-starts-within P ucd w b at (g ∷ gs) a =
-    put-within P (is_of_word ucd g && not b) at (word_starts ucd (is_of_word ucd g) (at + length g) gs) a.0
-    (starts-within P ucd w (is_of_word ucd g) (at + length g) gs a.1)
+starts-within P ucd w s f at [] a = tt
+starts-within P ucd w s f at (g ∷ gs) a =
+    put-within P (begins_word s f (kind_of ucd g)) at (word_starts ucd f (kind_of ucd g) (at + length g) gs) a.0
+    (starts-within P ucd w f (kind_of ucd g) (at + length g) gs a.1)
 
 first-unit : (ucd : Data) (w : ℕ) (gs : List (List ℕ)) → first_offset (map (unit_at ucd w) (with_offsets 0 gs)) ≡ 0
 unfolding with_offsets
@@ -58,11 +60,11 @@ start-lies P [] e a none = none refl
 start-lies P (u ∷ us) e a none = subst P e a.0
 
 module _ (P : ℕ → Type 0) (ucd : Data) (w : ℕ) (body : List ℕ) (utf8 : IsUtf8 body) (starts : Within P (starts_of (units ucd w body))) (end : P (length body)) where
-  words : Within P (word_starts ucd false 0 (graphemes true body))
-  words = starts-within P ucd w false 0 (graphemes true body) starts
+  words : Within P (word_starts ucd Other Other 0 (graphemes true body))
+  words = starts-within P ucd w Other Other 0 (graphemes true body) starts
 
   stops-lie : (way : Logical) → Within P (body_stops ucd way body)
-  stops-lie Forward = within-append P (word_starts ucd false 0 (graphemes true body)) (length body ∷ []) words (end, tt)
+  stops-lie Forward = within-append P (word_starts ucd Other Other 0 (graphemes true body)) (length body ∷ []) words (end, tt)
   stops-lie Back = (
     start-lies P (units ucd w body) (first-unit ucd w (graphemes true body)) starts (λ none. subst P (none-in ucd w body utf8 none) end),
     words,

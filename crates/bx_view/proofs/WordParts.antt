@@ -14,7 +14,9 @@ use Rattle.bx_ucd.specs.Data.{Data}
 use Rattle.bx_rows.specs.cells.Units.{unit_at, units}
 use Rattle.bx_rows.proofs.cells_lemmas.Rest.{next-cluster}
 use Rattle.bx_rows.specs.RowStarts.{first_offset}
-use Rattle.bx_view.specs.Words.{body_words, is_of_word, put_if, word_starts}
+use Rattle.bx_view.specs.Words.{begins_word, body_words, first_kind, goes_on, is_of_word, is_sign, kind_of, put_if, word_starts}
+use Rattle.bx_view.specs.declared.moves.unit_kind.UnitKind.{UnitKind}
+use Rattle.bx_view.specs.declared.moves.unit_kind.UnitKind.TheVariants.{Letter, Digit, Mark, LetterSign, DigitSign, Other}
 use Rattle.bx_view.proofs.Within.{Within, within-append, within-reverse}
 
 -- ---- searches
@@ -72,36 +74,48 @@ put-within P true at os here a = (here, a)
 put-within P false at os here a = a
 
 module _ (ucd : Data) where
-  -- the last cluster is of a word
-  abbrev ends-inside : Bool → List (List ℕ) → Bool
-  ends-inside b [] = b
-  ends-inside b (u ∷ us) = ends-inside (is_of_word ucd u) us
+  -- the kinds of the last two units, behind units of the kinds `second` and `first`
+  abbrev pub last-kinds : UnitKind → UnitKind → List (List ℕ) → UnitKind × UnitKind
+  last-kinds second first [] = (second, first)
+  last-kinds second first (u ∷ us) = last-kinds first (kind_of ucd u) us
 
-  words-append : (b : Bool) (at : ℕ) (us vs : List (List ℕ))
-      → word_starts ucd b at (us ++ vs) ≡ word_starts ucd b at us ++ word_starts ucd (ends-inside b us) (at + size us) vs
-  words-append b at [] vs = let none : at ≡ at + 0 = omega arith in ap (λ n. word_starts ucd b n vs) none
-  words-append b at (u ∷ us) vs =
-      let i = is_of_word ucd u in
-      let begins = i && not b in
-      let more = word_starts ucd i (at + length u) us in
+  words-append : (s f : UnitKind) (at : ℕ) (us vs : List (List ℕ))
+      → word_starts ucd s f at (us ++ vs)
+      ≡ word_starts ucd s f at us ++ word_starts ucd (last-kinds s f us).0 (last-kinds s f us).1 (at + size us) vs
+  words-append s f at [] vs = let none : at ≡ at + 0 = omega arith in ap (λ n. word_starts ucd s f n vs) none
+  words-append s f at (u ∷ us) vs =
+      let k = kind_of ucd u in
+      let begins = begins_word s f k in
+      let more = word_starts ucd f k (at + length u) us in
+      let last = last-kinds f k us in
       let sum : at + length u + size us ≡ at + size (u ∷ us) = omega arith in
-      ap (put_if begins at) (words-append i (at + length u) us vs)
-      ∙ ap (λ n. put_if begins at (more ++ word_starts ucd (ends-inside i us) n vs)) sum
-      ∙ put-append begins at more (word_starts ucd (ends-inside i us) (at + size (u ∷ us)) vs)
+      ap (put_if begins at) (words-append f k (at + length u) us vs)
+      ∙ ap (λ n. put_if begins at (more ++ word_starts ucd last.0 last.1 n vs)) sum
+      ∙ put-append begins at more (word_starts ucd last.0 last.1 (at + size (u ∷ us)) vs)
 
-  pub words-from : (b : Bool) (at : ℕ) (us : List (List ℕ)) → Within (λ o. at ≤ o) (word_starts ucd b at us)
-  words-from b at [] = tt
-  words-from b at (u ∷ us) =
-      put-within (λ o. at ≤ o) (is_of_word ucd u && not b) at (word_starts ucd (is_of_word ucd u) (at + length u) us) (omega arith)
-      (within-weaker (λ o. at + length u ≤ o) (λ o. at ≤ o) (λ o h. omega (arith, h)) (word_starts ucd (is_of_word ucd u) (at + length u) us)
-      (words-from (is_of_word ucd u) (at + length u) us))
+  pub words-from : (s f : UnitKind) (at : ℕ) (us : List (List ℕ)) → Within (λ o. at ≤ o) (word_starts ucd s f at us)
+  words-from s f at [] = tt
+  words-from s f at (u ∷ us) =
+      let more = word_starts ucd f (kind_of ucd u) (at + length u) us in
+      put-within (λ o. at ≤ o) (begins_word s f (kind_of ucd u)) at more (omega arith)
+      (within-weaker (λ o. at + length u ≤ o) (λ o. at ≤ o) (λ o h. omega (arith, h)) more (words-from f (kind_of ucd u) (at + length u) us))
 
-  pub words-upto : (b : Bool) (at : ℕ) (us : List (List ℕ)) → Within (λ o. o ≤ at + size us) (word_starts ucd b at us)
-  words-upto b at [] = tt
-  words-upto b at (u ∷ us) =
-      put-within (λ o. o ≤ at + size (u ∷ us)) (is_of_word ucd u && not b) at (word_starts ucd (is_of_word ucd u) (at + length u) us) (omega arith)
-      (within-weaker (λ o. o ≤ at + length u + size us) (λ o. o ≤ at + size (u ∷ us)) (λ o h. omega (arith, h))
-      (word_starts ucd (is_of_word ucd u) (at + length u) us) (words-upto (is_of_word ucd u) (at + length u) us))
+  pub words-upto : (s f : UnitKind) (at : ℕ) (us : List (List ℕ)) → Within (λ o. o ≤ at + size us) (word_starts ucd s f at us)
+  words-upto s f at [] = tt
+  words-upto s f at (u ∷ us) =
+      let more = word_starts ucd f (kind_of ucd u) (at + length u) us in
+      put-within (λ o. o ≤ at + size (u ∷ us)) (begins_word s f (kind_of ucd u)) at more (omega arith)
+      (within-weaker (λ o. o ≤ at + length u + size us) (λ o. o ≤ at + size (u ∷ us)) (λ o h. omega (arith, h)) more
+      (words-upto f (kind_of ucd u) (at + length u) us))
+
+  -- what stands before a unit of the kind `k` is no matter to the units after it, as if it were a mark
+  abbrev pub IsNoMatter : UnitKind → UnitKind → Type 0
+  IsNoMatter before k = (v : UnitKind) → goes_on before k v ≡ goes_on Mark k v
+
+  tail-same : (f k : UnitKind) → IsNoMatter f k → (at : ℕ) (us : List (List ℕ)) → word_starts ucd f k at us ≡ word_starts ucd Mark k at us
+  tail-same f k alike at [] = refl
+  tail-same f k alike at (u ∷ us) =
+      ap (λ b. put_if (is_of_word (kind_of ucd u) && not b) at (word_starts ucd k (kind_of ucd u) (at + length u) us)) (alike (kind_of ucd u))
 
   -- starts are those after the first unit, and maybe the first unit's
   lead : (i b : Bool) (at : ℕ) (os : List ℕ) → (ps : List ℕ) × ((put_if (i && not b) at os ≡ ps ++ put_if (i && not true) at os) × Within (λ o. o ≤ at) ps)
@@ -109,10 +123,30 @@ module _ (ucd : Data) where
   lead true false at os = (at ∷ [], (refl, (omega arith, tt)))
   lead false b at os = ([], (refl, tt))
 
-  words-lead : (b : Bool) (at : ℕ) (us : List (List ℕ))
-      → (ps : List ℕ) × ((word_starts ucd b at us ≡ ps ++ word_starts ucd true at us) × Within (λ o. o ≤ at) ps)
-  words-lead b at [] = ([], (refl, tt))
-  words-lead b at (u ∷ us) = lead (is_of_word ucd u) b at (word_starts ucd (is_of_word ucd u) (at + length u) us)
+  words-lead : (s f : UnitKind) (at : ℕ) (us : List (List ℕ)) → IsNoMatter f (first_kind ucd us)
+      → (ps : List ℕ) × ((word_starts ucd s f at us ≡ ps ++ word_starts ucd Mark Mark at us) × Within (λ o. o ≤ at) ps)
+  words-lead s f at [] alike = ([], (refl, tt))
+  words-lead s f at (u ∷ us) alike =
+      let k = kind_of ucd u in
+      let (ps, (e, upto)) = lead (is_of_word k) (goes_on s f k) at (word_starts ucd f k (at + length u) us) in
+      (ps, (e ∙ ap (λ os. ps ++ put_if (is_of_word k && not true) at os) (tail-same f k alike (at + length u) us), upto))
+
+-- behind none but signs a letter's or a digit's neighbour counts
+pub no-sign : (before k : UnitKind) → is_sign k ≡ false → (v : UnitKind) → goes_on before k v ≡ goes_on Mark k v
+no-sign before Letter h v = refl
+no-sign before Digit h v = refl
+no-sign before Mark h v = refl
+no-sign before LetterSign h v = absurd (cc h)
+no-sign before DigitSign h v = absurd (cc h)
+no-sign before Other h v = refl
+
+pub none-before : (k v : UnitKind) → goes_on Other k v ≡ goes_on Mark k v
+none-before Letter v = refl
+none-before Digit v = refl
+none-before Mark v = refl
+none-before LetterSign v = refl
+none-before DigitSign v = refl
+none-before Other v = refl
 
 -- ---- a boundary of a body's clusters
 
@@ -151,10 +185,23 @@ none-left body at h =
 
 -- ---- a body's words, cut at a boundary
 
-module _ (ucd : Data) (body : List ℕ) (at : ℕ) (part : IsPart body at) where
+-- a boundary from which words can be read: what stands before it matters only to whether the unit at the boundary begins one
+pub record IsReadable (ucd : Data) (body : List ℕ) (at : ℕ) : Type 0 where
+  pub part : IsPart body at
+  pub alike : IsNoMatter ucd (last-kinds ucd Other Other part.front).1 (first_kind ucd (graphemes true (drop at body)))
+
+pub readable-start : (ucd : Data) (body : List ℕ) (utf8 : IsUtf8 body) → IsReadable ucd body 0
+readable-start ucd body utf8 = record { part = part-start body utf8; alike = none-before (first_kind ucd (graphemes true (drop 0 body))) }
+
+pub readable-unsigned : (ucd : Data) (body : List ℕ) (at : ℕ) → IsPart body at → is_sign (first_kind ucd (graphemes true (drop at body))) ≡ false
+    → IsReadable ucd body at
+readable-unsigned ucd body at part h =
+    record { part = part; alike = no-sign (last-kinds ucd Other Other part.front).1 (first_kind ucd (graphemes true (drop at body))) h }
+
+module _ (ucd : Data) (body : List ℕ) (at : ℕ) (reads : IsReadable ucd body at) where
   -- the starts of words after the unit at the boundary
   abbrev pub behind : List ℕ
-  behind = word_starts ucd true at (graphemes true (drop at body))
+  behind = word_starts ucd Mark Mark at (graphemes true (drop at body))
 
   pub record IsCut : Type 0 where
     pub ahead : List ℕ
@@ -163,17 +210,18 @@ module _ (ucd : Data) (body : List ℕ) (at : ℕ) (part : IsPart body at) where
 
   pub words-cut : IsCut
   words-cut =
-      let front = part.front in
+      let front = reads.part.front in
       let rest = graphemes true (drop at body) in
-      let b = ends-inside ucd false front in
-      let (ps, (e, upto)) = words-lead ucd b at rest in
-      let first = word_starts ucd false 0 front in
-      let place : 0 + size front ≡ at = omega (arith, part.size_is) in
+      let last = last-kinds ucd Other Other front in
+      let (ps, (e, upto)) = words-lead ucd last.0 last.1 at rest reads.alike in
+      let first = word_starts ucd Other Other 0 front in
+      let place : 0 + size front ≡ at = omega (arith, reads.part.size_is) in
       record {
         ahead = first ++ ps;
-        words = ap (word_starts ucd false 0) part.parts ∙ words-append ucd false 0 front rest ∙ ap (λ n. first ++ word_starts ucd b n rest) place
+        words = ap (word_starts ucd Other Other 0) reads.part.parts ∙ words-append ucd Other Other 0 front rest
+            ∙ ap (λ n. first ++ word_starts ucd last.0 last.1 n rest) place
             ∙ ap (λ os. first ++ os) e ∙ sym (append_assoc first ps behind);
-        upto = within-append (λ o. o ≤ at) first ps (subst (λ n. Within (λ o. o ≤ n) first) place (words-upto ucd false 0 front)) upto;
+        upto = within-append (λ o. o ≤ at) first ps (subst (λ n. Within (λ o. o ≤ n) first) place (words-upto ucd Other Other 0 front)) upto;
       }
 
   -- ---- the first start from an offset on
@@ -187,7 +235,7 @@ module _ (ucd : Data) (body : List ℕ) (at : ℕ) (part : IsPart body at) where
       ∙ ap (λ x. option_or x (find (nat_lt offset) behind)) (none-found (nat_lt offset) c.ahead fail)
       ∙ found-same (nat_lt offset) (nat_le (offset + 1)) behind
       (within-weaker (λ o. at ≤ o) (λ o. nat_lt offset o ≡ nat_le (offset + 1) o) (λ o h. grind (arith, nat_tests)) behind
-      (words-from ucd true at (graphemes true (drop at body))))
+      (words-from ucd Mark Mark at (graphemes true (drop at body))))
 
   -- ---- the last start before a bound
 
@@ -230,13 +278,13 @@ module _ (ucd : Data) (body : List ℕ) (at : ℕ) (part : IsPart body at) where
 -- from a body's start on, all starts are after it or at it
 pub last-of-all : (ucd : Data) (body : List ℕ) (utf8 : IsUtf8 body) (bound : ℕ)
     → unwrap_or (find (λ o. nat_lt o bound) (reverse (body_words ucd body))) 0
-    ≡ unwrap_or (find (λ o. nat_lt o bound) (reverse (word_starts ucd true 0 (graphemes true body)))) 0
+    ≡ unwrap_or (find (λ o. nat_lt o bound) (reverse (word_starts ucd Mark Mark 0 (graphemes true body)))) 0
 last-of-all ucd body utf8 bound =
-    let part = part-start body utf8 in
-    let c = words-cut ucd body 0 part in
+    let reads = readable-start ucd body utf8 in
+    let c = words-cut ucd body 0 reads in
     let before : ℕ → Bool = λ o. nat_lt o bound in
-    ap (λ x. unwrap_or x 0) (last-cut ucd body 0 part bound)
-    ∙ or-zero (find before (reverse (behind ucd body 0 part))) (find before (reverse c.ahead))
+    ap (λ x. unwrap_or x 0) (last-cut ucd body 0 reads bound)
+    ∙ or-zero (find before (reverse (behind ucd body 0 reads))) (find before (reverse c.ahead))
     (zero-found before (reverse c.ahead) (within-reverse (λ o. o ≤ 0) c.ahead c.upto))
 
 -- ---- steps of a search by units
@@ -270,13 +318,13 @@ module _ (bound at : ℕ) (rest : List ℕ) (found : Option ℕ) where
   last-later false h = refl
 
 -- none of the units from an offset on begins before the bound and before the body's end
-module _ (ucd : Data) (body : List ℕ) (inside : Bool) (at bound : ℕ) where
+module _ (ucd : Data) (body : List ℕ) (second first : UnitKind) (at bound : ℕ) where
   abbrev left : List ℕ
-  left = word_starts ucd inside at (graphemes true (drop at body))
+  left = word_starts ucd second first at (graphemes true (drop at body))
 
   pub none-from : min bound (length body) ≤ at → find (λ o. nat_lt o bound) (reverse left) ≡ None
   none-from h = ⊎_elim
-      (λ short. ap (λ us. find (λ o. nat_lt o bound) (reverse (word_starts ucd inside at us))) (none-left body at (omega (arith, h, short))))
+      (λ short. ap (λ us. find (λ o. nat_lt o bound) (reverse (word_starts ucd second first at us))) (none-left body at (omega (arith, h, short))))
       (λ past. none-found (λ o. nat_lt o bound) (reverse left)
       (within-weaker (λ o. at ≤ o) (λ o. nat_lt o bound ≡ false) (λ o b. grind (arith, nat_tests)) (reverse left)
-      (within-reverse (λ o. at ≤ o) left (words-from ucd inside at (graphemes true (drop at body)))))) (cases_lt at bound)
+      (within-reverse (λ o. at ≤ o) left (words-from ucd second first at (graphemes true (drop at body)))))) (cases_lt at bound)

@@ -15,6 +15,7 @@ use Rattle.bx_text.proofs.index_lemmas.Totals.{total_more}
 use Rattle.bx_view.specs.declared.moves.Logical.{Logical}
 use Rattle.bx_view.specs.declared.moves.Logical.TheVariants.{Back, Forward}
 use Rattle.bx_view.specs.Numbers.{body_at, count, paragraph_at, start_at}
+use Rattle.bx_view.specs.declared.moves.unit_kind.UnitKind.TheVariants.{Other}
 use Rattle.bx_view.specs.Words.{body_stops, body_words, step_word, stops_from, text_stops}
 use Rattle.bx_view.proofs.RowsAround.{AllEnded, EndsBefore, ahead-ended, ahead-utf8}
 use Rattle.bx_view.proofs.FindPlaces.{moved-before, moved-behind}
@@ -47,7 +48,7 @@ pub words-within : (ucd : Data) (body : List ℕ) → IsUtf8 body → Within (λ
 words-within ucd body utf8 =
     let us = graphemes true body in
     let all : 0 + size us ≡ length body = omega (arith, size-concat us, ap length (concat-segments (is_grapheme_break true) body utf8)) in
-    subst (λ n. Within (λ o. o ≤ n) (body_words ucd body)) all (words-upto ucd false 0 us)
+    subst (λ n. Within (λ o. o ≤ n) (body_words ucd body)) all (words-upto ucd Other Other 0 us)
 
 pub stops-within : (ucd : Data) (way : Logical) (body : List ℕ) → IsUtf8 body → Within (λ o. o ≤ length body) (body_stops ucd way body)
 stops-within ucd Forward body utf8 =

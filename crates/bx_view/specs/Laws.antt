@@ -6,13 +6,14 @@ use Rattle.std.specs.List.Sorted.{IsStrictlyIncreasing}
 use Rattle.std.specs.Prelude.{IsPermutation, MatchOption}
 use Rattle.bx_ucd.specs.Data.{Data}
 use Rattle.bx_paragraph.specs.declared.moves.Visual.{Visual}
+use Rattle.bx_view.specs.declared.moves.Goal.{Goal}
 use Rattle.bx_view.specs.declared.moves.Logical.{Logical}
 use Rattle.bx_view.specs.declared.moves.Logical.TheVariants.{Back, Forward}
 use Rattle.bx_view.specs.declared.moves.Move.{Move}
 use Rattle.bx_view.specs.declared.moves.Vertical.{Vertical}
 use Rattle.bx_view.specs.Moves.{entry_in, page, place_at, place_from, row_end, row_home, step_logical, step_visual, vertical}
 use Rattle.bx_view.specs.Moved.{moved}
-use Rattle.bx_view.specs.Top.{pointed_at, follow}
+use Rattle.bx_view.specs.Top.{pointed_at, follow, to_shown}
 use Rattle.bx_view.specs.Places.{pieces, text_places, IsTextPlace}
 use Rattle.bx_view.specs.TextRows.{TextRow, row_at, row_of, IsPlace, places_of, slots}
 use Rattle.bx_view.specs.Words.{step_word, text_stops}
@@ -57,6 +58,7 @@ pub record MovesKeep (ucd : Data) (text : List ℕ) (w : ℕ) (rows : List TextR
   pub end : (offset : ℕ) → P (row_end rows offset)
   pub top : (top place t : ℕ) → 0 < t → P (follow rows top place t)
   pub pointed : (top r column : ℕ) → P (pointed_at w rows top r column)
+  pub shown : (top t : ℕ) (goal : Goal) (place : ℕ) → P place → P (to_shown w rows top t goal place)
 
 -- the least stop after a place
 pub record IsLeastBehind (stops : List ℕ) (place stop : ℕ) : Type 0 where

@@ -1,11 +1,11 @@
 //! The unit and the word at a place. Offsets count bytes of a paragraph's body, places bytes of the text.
-ghost use Rattle.std.specs.Prelude.{◌≡◌, ◌+◌, ◌<◌, ◌≤◌, IfOk, drop, length};
+ghost use Rattle.std.specs.Prelude.{◌≡◌, ◌<◌, ◌≤◌, ◌||◌, IfOk, drop, length, true};
 ghost use Rattle.std.specs.Str.{IsCharBoundary};
 ghost use Rattle.unicode_segmentation.specs.Grapheme.{graphemes};
 ghost use Rattle.bx_paragraph.specs.Layout.{IsLayoutBy};
 ghost use Rattle.bx_view.specs.Places.{IsTextPlace};
 ghost use Rattle.bx_view.specs.TextRef.{IsViewBy, Keeps, bytes};
-ghost use Rattle.bx_view.specs.Words.{stretch_at, unit_at, unit_start, unit_stop, word_around, word_end};
+ghost use Rattle.bx_view.specs.Words.{first_kind, goes_on, is_of_word, stretch_at, unit_at, unit_start, unit_stop, word_around, word_end};
 ghost use Rattle.bx_view.specs.declared.moves.unit_kind.UnitKind.TheVariants.{Other};
 
 use crate::going::unit_end;
@@ -16,6 +16,24 @@ use bx_common::{OutOfMemory, Range};
 use bx_paragraph::ParagraphLayout;
 use bx_ucd::BidiData;
 
+/// Whether a word, the last unit of which is of the kind `last` so far, goes on with a unit of the kind `kind`, which ends at `stop`:
+/// it is of a word, or a sign that stands between `last` and the next unit.
+fn is_inside<D: BidiData>(
+    last: UnitKind,
+    kind: UnitKind,
+    body: &str,
+    stop: usize,
+    tables: &D,
+) -> bool
+    requires { IsCharBoundary body.now stop }
+    ensures { result ≡ (is_of_word kind || goes_on last kind (first_kind (D.data tables.now) (graphemes true (drop stop body.now)))) }
+{
+    if is_of_word(kind) {
+        return true;
+    }
+    goes_on(last, kind, kind_at(body, stop, tables))
+}
+
 /// The end of the word that begins at an offset of a body; the offset itself, if no unit of a word begins there.
 fn word_end<D: BidiData>(body: &str, begin: usize, tables: &D) -> usize
     requires { IsCharBoundary body.now begin }
@@ -25,7 +43,7 @@ fn word_end<D: BidiData>(body: &str, begin: usize, tables: &D) -> usize
     let mut at = begin;
     while at < body.len() {
         let (kind, stop) = unit_kind_at(body, at, tables);
-        if !is_of_word(kind) && !goes_on(last, kind, kind_at(body, stop, tables)) {
+        if !is_inside(last, kind, body, stop, tables) {
             return at;
         }
         last = kind;

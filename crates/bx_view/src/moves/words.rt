@@ -4,7 +4,7 @@
 ghost use Rattle.std.specs.Prelude.{◌≡◌, ◌+◌, ◌<◌, ◌≤◌, ◌&&◌, ◌||◌, Bool, true, false, Some, drop, find, length, min, nat_le, nat_lt, reverse, unwrap_or};
 ghost use Rattle.std.specs.Str.{IsCharBoundary};
 ghost use Rattle.unicode_segmentation.specs.Grapheme.{graphemes};
-ghost use Rattle.bx_paragraph.specs.Layout.{IsLayoutBy};
+ghost use Rattle.bx_paragraph.specs.Layout.{IsLayoutBy, IsSound};
 ghost use Rattle.bx_view.specs.WordReads.{ReadsAlone};
 ghost use Rattle.bx_view.specs.Words.{begins_word, body_words, first_kind, goes_on, is_of_word, is_sign, put_if, word_end, word_starts};
 ghost use Rattle.bx_view.specs.declared.moves.unit_kind.UnitKind.{UnitKind};
@@ -119,16 +119,20 @@ fn is_sign_at<D: BidiData>(body: &str, at: usize, tables: &D) -> bool
 /// rows above.
 fn row_to_read<D: BidiData>(paragraph: &ParagraphLayout, row: usize, tables: &D) -> usize
     requires data { IsLayoutBy (D.data tables.now) paragraph.now }
+    requires sound { IsSound paragraph.now }
     requires within { row < length paragraph.now.starts }
     ensures order { result ≤ row }
     ensures reads { ReadsAlone (D.data tables.now) paragraph.now result }
 {
     let body = paragraph.body();
     let mut there = row;
-    while there > 0 && is_sign_at(body, paragraph.first(there), tables) {
+    while there > 0 {
+        if !is_sign_at(body, paragraph.first(there), tables) {
+            return there;
+        }
         there -= 1;
     }
-    there
+    0
 }
 
 /// The first offset after `offset` at which a word begins; the body's end, if there is none.

@@ -7,5 +7,6 @@ pub returns : goal.returns
 returns g c =
     let ucd = g.D.BidiData.data c.args.tables.now in
     let body = c.args.body.now in
-    sym (ap (λ x. unwrap_or x (length body)) (c.loop-at.invariant.same
-    ∙ ap (λ us. find (nat_le c.args.from) (word_starts ucd c.loop-at.inside c.loop-at.at us)) (none-left body c.loop-at.at (omega (arith, c.loop-at-test.false)))))
+    let l = c.loop-at in
+    sym (ap (λ x. unwrap_or x (length body)) (l.invariant.same
+    ∙ ap (λ us. find (nat_le c.args.from) (word_starts ucd l.second l.first l.at us)) (none-left body l.at (omega (arith, c.loop-at-test.false)))))

@@ -8,8 +8,8 @@ use Rattle.bx_view.proofs.moves.words.first_start.Given as goal
 abbrev pub invariant-loop-at : goal.invariant-loop-at
 invariant-loop-at g l = record {
   bound : IsCharBoundary l.body l.at;
-  same : find (nat_le l.from) (word_starts (g.D.BidiData.data l.tables) l.fn.is_inside l.fn.start (graphemes true (drop l.fn.start l.body)))
-      ≡ find (nat_le l.from) (word_starts (g.D.BidiData.data l.tables) l.inside l.at (graphemes true (drop l.at l.body)));
+  same : find (nat_le l.from) (word_starts (g.D.BidiData.data l.tables) l.fn.before l.fn.before l.fn.start (graphemes true (drop l.fn.start l.body)))
+      ≡ find (nat_le l.from) (word_starts (g.D.BidiData.data l.tables) l.second l.first l.at (graphemes true (drop l.at l.body)));
 }
 
 abbrev pub decreases-loop-at : goal.decreases-loop-at
