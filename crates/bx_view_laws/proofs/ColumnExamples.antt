@@ -4,6 +4,7 @@ use Rattle.std.specs.Prelude.{codes}
 use Rattle.unicode_segmentation.proofs.Computing.{unicode_segmentation}
 use Rattle.unicode_width.proofs.Computing.{unicode_width}
 use Rattle.bx_ucd.specs.SmallTables.{small}
+use Rattle.bx_view.specs.declared.moves.Goal.TheVariants.{Column, Start, End}
 use Rattle.bx_view.specs.declared.moves.Move.TheVariants.{Rows, RowsIn}
 use Rattle.bx_view.specs.declared.moves.Vertical.TheVariants.{Up, Down}
 use Rattle.bx_view.specs.Moves.{rows_away, row_end, vertical}
@@ -13,7 +14,7 @@ use Rattle.bx_view.proofs.Computed.{rows, walk}
 
 -- in the column of the place's own cell the move is the cursor's own
 own_column : (text : List ℕ) (w : ℕ) (rs : List TextRow) (n place : ℕ)
-    → moved small text w rs (RowsIn Down n (cell_of w rs place)) place ≡ moved small text w rs (Rows Down n) place
+    → moved small text w rs (RowsIn Down n (Column (cell_of w rs place))) place ≡ moved small text w rs (Rows Down n) place
 own_column text w rs n place = refl
 
 -- the rows of lines of six letters, two and six
@@ -25,7 +26,7 @@ unfolding unicode_segmentation unicode_width
 end_of_first_line = refl
 
 -- twice down and twice up from the end of the first line: the column of the first move is kept
-through_a_short_line : walk (rows_away 20 short_between Down 1 7 ∷ rows_away 20 short_between Down 1 7 ∷ rows_away 20 short_between Up 1 7 ∷ rows_away 20 short_between Up 1 7 ∷ []) 6
+through_a_short_line : walk (rows_away 20 short_between Down 1 (Column 7) ∷ rows_away 20 short_between Down 1 (Column 7) ∷ rows_away 20 short_between Up 1 (Column 7) ∷ rows_away 20 short_between Up 1 (Column 7) ∷ []) 6
     ≡ 9 ∷ 16 ∷ 9 ∷ 6 ∷ []
 unfolding unicode_segmentation unicode_width
 through_a_short_line = refl
@@ -41,7 +42,7 @@ abbrev empty_between : List TextRow
 empty_between = rows 20 (codes "abcd" ++ (10 ∷ 10 ∷ []) ++ codes "abcd" ++ (10 ∷ 10 ∷ []) ++ codes "abcd")
 
 -- a row down, twice a page of two rows down, and a page up, from the end of the first line
-by_pages : walk (rows_away 20 empty_between Down 1 5 ∷ rows_away 20 empty_between Down 2 5 ∷ rows_away 20 empty_between Down 2 5 ∷ rows_away 20 empty_between Up 2 5 ∷ []) 4
+by_pages : walk (rows_away 20 empty_between Down 1 (Column 5) ∷ rows_away 20 empty_between Down 2 (Column 5) ∷ rows_away 20 empty_between Down 2 (Column 5) ∷ rows_away 20 empty_between Up 2 (Column 5) ∷ []) 4
     ≡ 5 ∷ 11 ∷ 16 ∷ 10 ∷ []
 unfolding unicode_segmentation unicode_width
 by_pages = refl
@@ -54,7 +55,7 @@ end_of_hebrew_line : cell_of 6 hebrew 6 ≡ 3
 unfolding unicode_segmentation unicode_width
 end_of_hebrew_line = refl
 
-in_hebrew : walk (rows_away 6 hebrew Down 1 3 ∷ rows_away 6 hebrew Up 1 3 ∷ []) 6 ≡ 9 ∷ 6 ∷ []
+in_hebrew : walk (rows_away 6 hebrew Down 1 (Column 3) ∷ rows_away 6 hebrew Up 1 (Column 3) ∷ []) 6 ≡ 9 ∷ 6 ∷ []
 unfolding unicode_segmentation unicode_width
 in_hebrew = refl
 

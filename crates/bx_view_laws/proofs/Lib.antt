@@ -1,6 +1,8 @@
 pub mod Vectors
 pub mod Examples
 pub mod WordExamples
+pub mod SignExamples
+pub mod ViewExamples
 pub mod LawExamples
 pub mod EntryExamples
 pub mod ColumnExamples
@@ -15,3 +17,4 @@ pub mod UnitColumns
 pub mod SideColumns
 pub mod PointedUnits
 pub mod PointedTop
+pub mod ViewRows

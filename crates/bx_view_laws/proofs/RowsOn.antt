@@ -12,10 +12,12 @@ use Rattle.bx_text.specs.index.Paragraphs.{paragraphs}
 use Rattle.bx_paragraph.specs.BodyRows.{BodyRow}
 use Rattle.bx_paragraph.specs.Slots.{covers, end_slot, entry, extent_of, left_column, row_slots}
 use Rattle.bx_paragraph.proofs.RowSlots.{columns-in-order}
+use Rattle.bx_view.specs.declared.moves.Goal.{Goal}
+use Rattle.bx_view.specs.declared.moves.Goal.TheVariants.{Column}
 use Rattle.bx_view.specs.declared.moves.Vertical.{Vertical}
 use Rattle.bx_view.specs.declared.moves.Vertical.TheVariants.{Up, Down}
 use Rattle.bx_view_laws.specs.Entry.{IsEntry, RowsGoOn}
-use Rattle.bx_view.specs.Moves.{entry_in, place_in, row_away, rows_away, to_row}
+use Rattle.bx_view.specs.Moves.{entry_in, goal_in, place_in, row_away, rows_away, to_row}
 use Rattle.bx_view.specs.TextRows.{TextRow, first, no_text_row, row_at, row_of, text_rows}
 use Rattle.bx_view.proofs.CellColumns.{cell-inside, extents-total, total}
 use Rattle.bx_view.proofs.Entered.{row-entered}
@@ -71,19 +73,19 @@ module _ (ucd : Data) (base : Base) (w : ℕ) (side : 1 ≤ w) (text : List ℕ)
       (fitting-from ucd base w 0 (paragraphs ucd text) k no_text_row h) some inside refl (has-some _ (entry_in w r column) is)
 
   enters : (way : Vertical) (n column place k : ℕ) → 1 ≤ column → column ≤ w → k ≡ row_away (length rows) way n (row_of rows place)
-      → k ≢ row_of rows place → IsEntry w (row_at rows k) column (rows_away w rows way n column place)
+      → k ≢ row_of rows place → IsEntry w (row_at rows k) column (rows_away w rows way n (Column column) place)
   enters way n column place k some few e other =
       let inside : k < length rows =
       subst (λ m. m < length rows) (sym e) (away-within way (length rows) n (row_of rows place) (falls-within rows place some-row)) in
-      let reached : to_row w rows column place k ≡ unwrap_or (entry_in w (row_at rows k) column) place =
+      let reached : to_row w rows (Column column) place k ≡ unwrap_or (entry_in w (row_at rows k) column) place =
       ap (λ t. elim t [ true ↦ place | false ↦ unwrap_or (entry_in w (row_at rows k) column) place ]) (ne_eqb k (row_of rows place) other) in
-      subst (IsEntry w (row_at rows k) column) (sym reached ∙ ap (to_row w rows column place) e) (entered column place k some few inside)
+      subst (IsEntry w (row_at rows k) column) (sym reached ∙ ap (to_row w rows (Column column) place) e) (entered column place k some few inside)
 
-  stays : (way : Vertical) (n column place : ℕ) → row_away (length rows) way n (row_of rows place) ≡ row_of rows place
-      → rows_away w rows way n column place ≡ place
-  stays way n column place e =
+  stays : (way : Vertical) (n : ℕ) (goal : Goal) (place : ℕ) → row_away (length rows) way n (row_of rows place) ≡ row_of rows place
+      → rows_away w rows way n goal place ≡ place
+  stays way n goal place e =
       let k = row_away (length rows) way n (row_of rows place) in
-      ap (λ t. elim t [ true ↦ place | false ↦ unwrap_or (entry_in w (row_at rows k) column) place ]) (eq-eqb k (row_of rows place) e)
+      ap (λ t. elim t [ true ↦ place | false ↦ unwrap_or (goal_in w (row_at rows k) goal) place ]) (eq-eqb k (row_of rows place) e)
 
   pub rows-go-on : RowsGoOn w rows
   rows-go-on = record { own = λ place. cell-inside ucd base w text place side utf8; enters = enters; stays = stays }

@@ -65,7 +65,7 @@ back_over_empty : back empty_between 4 4 ≡ 3 ∷ 2 ∷ 0 ∷ 0 ∷ []
 unfolding unicode_segmentation unicode_width
 back_over_empty = refl
 
--- letters, marks, digits of both kinds and BN are of one word; ON, S and CS are of none
+-- letters, marks, digits of both kinds and BN are of one word; ON and S are of none
 abbrev marked : List ℕ
 marked = codes "a" ++ (0x301 ∷ []) ++ codes "1" ++ (0x661 ∷ []) ++ codes "!b"
 
@@ -85,7 +85,7 @@ over_lone_mark : forward (codes "a" ++ (1 ∷ 0x301 ∷ []) ++ codes "b") 1 0 �
 unfolding unicode_segmentation unicode_width
 over_lone_mark = refl
 
-over_comma : forward (codes "1,2") 2 0 ≡ 2 ∷ 3 ∷ []
+over_comma : forward (codes "1,2") 2 0 ≡ 3 ∷ 3 ∷ []
 unfolding unicode_segmentation unicode_width
 over_comma = refl
 

@@ -3,6 +3,8 @@
 use Rattle.std.specs.Prelude.{◌≡◌, ◌≢◌, ◌⊎◌, ℕ, ◌+◌, ◌<◌, ◌≤◌, true, false, List, length, All, Contains}
 use Rattle.bx_paragraph.specs.declared.slots.Slot.{Slot}
 use Rattle.bx_paragraph.specs.Slots.{covers, row_slots}
+use Rattle.bx_view.specs.declared.moves.Goal.{Goal}
+use Rattle.bx_view.specs.declared.moves.Goal.TheVariants.{Column}
 use Rattle.bx_view.specs.declared.moves.Vertical.{Vertical}
 use Rattle.bx_view.specs.Moves.{row_away, rows_away}
 use Rattle.bx_view.specs.TextRows.{TextRow, cell_of, row_at, row_of}
@@ -31,6 +33,6 @@ pub record IsEntry (w : ℕ) (r : TextRow) (column place : ℕ) : Type 0 where
 pub record RowsGoOn (w : ℕ) (rows : List TextRow) : Type 0 where
   pub own : (place : ℕ) → (1 ≤ cell_of w rows place) × (cell_of w rows place ≤ w)
   pub enters : (way : Vertical) (n column place k : ℕ) → 1 ≤ column → column ≤ w → k ≡ row_away (length rows) way n (row_of rows place)
-      → k ≢ row_of rows place → IsEntry w (row_at rows k) column (rows_away w rows way n column place)
-  pub stays : (way : Vertical) (n column place : ℕ) → row_away (length rows) way n (row_of rows place) ≡ row_of rows place
-      → rows_away w rows way n column place ≡ place
+      → k ≢ row_of rows place → IsEntry w (row_at rows k) column (rows_away w rows way n (Column column) place)
+  pub stays : (way : Vertical) (n : ℕ) (goal : Goal) (place : ℕ) → row_away (length rows) way n (row_of rows place) ≡ row_of rows place
+      → rows_away w rows way n goal place ≡ place

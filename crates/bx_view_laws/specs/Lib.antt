@@ -1,3 +1,4 @@
 pub mod Entry
 pub mod Laws
 pub mod Pointed
+pub mod Views
