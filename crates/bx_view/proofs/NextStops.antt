@@ -1,5 +1,5 @@
 -- The stops of a text ascend, so a search finds the least one after a place, or the greatest one before it.
-use Rattle.std.proofs.Common.{◌≡◌, ℕ, zero, suc, ◌+◌, ◌<◌, ◌≤◌, nat_lt, not, ◌&&◌, cond, Bool, true, false, List, [], ◌∷◌, ◌++◌, map, length, get_or, reverse, find}
+use Rattle.std.proofs.Common.{◌≡◌, ℕ, zero, suc, ◌+◌, ◌<◌, ◌≤◌, nat_lt, cond, Bool, true, false, List, [], ◌∷◌, ◌++◌, map, length, get_or, reverse, find}
 use Rattle.std.proofs.Common.{Option, Some, None, IsUtf8, refl, sym, subst, ◌∙◌, ap, arith}
 use Rattle.std.specs.Prelude.{Contains}
 use Rattle.std.specs.Option.{option_or}
@@ -17,7 +17,7 @@ use Rattle.bx_view.specs.declared.moves.unit_kind.UnitKind.TheVariants.{Other}
 use Rattle.bx_view.specs.Words.{begins_word, body_stops, body_words, kind_of, put_if, stops_from, word_starts}
 use Rattle.bx_view.proofs.Parts.{AreUtf8}
 use Rattle.bx_view.proofs.Within.{Within, within-append}
-use Rattle.bx_view.proofs.WordParts.{all-fail, put-within, within-weaker, words-from}
+use Rattle.bx_view.proofs.WordParts.{all-fail, within-weaker, words-from}
 use Rattle.bx_view.proofs.WordStops.{from-on, moved-within, own-upto, words-within}
 
 -- ---- ascending offsets

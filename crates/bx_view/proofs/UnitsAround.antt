@@ -1,6 +1,6 @@
 -- The unit at an offset of a body, found by a walk over its units.
-use Rattle.std.proofs.Common.{◌≡◌, ℕ, ◌+◌, ◌-◌, ◌<◌, ◌≤◌, nat_le, nat_lt, cond, min, true, false, List, [], ◌∷◌, ◌++◌, length, drop, reverse, find, Option, Some, None}
-use Rattle.std.proofs.Common.{unwrap_or, refl, sym, ap, ◌∙◌, arith, append_assoc}
+use Rattle.std.proofs.Common.{◌≡◌, ℕ, ◌+◌, ◌-◌, ◌<◌, ◌≤◌, nat_le, nat_lt, cond, min, Bool, true, false, List, [], ◌∷◌, ◌++◌, length, drop, reverse, find, Some, None}
+use Rattle.std.proofs.Common.{unwrap_or, sym, ap, ◌∙◌, arith, append_assoc}
 use Rattle.std.specs.Option.{option_or}
 use Rattle.std.proofs.lemmas.Bool.Decides.{nat_tests}
 use Rattle.std.proofs.lemmas.List.{reverse-append}
@@ -17,8 +17,7 @@ bounds-append : (start : ℕ) (us vs : List (List ℕ)) → (ps : List ℕ) × (
 bounds-append start [] vs = let none : start ≡ start + 0 = omega arith in ([], (ap (λ n. boundaries n vs) none, tt))
 bounds-append start (u ∷ us) vs =
     let (ps, (e, upto)) = bounds-append (start + length u) us vs in
-    let sum : start + length u + size us ≡ start + size (u ∷ us) = omega arith in
-    (
+    let sum : start + length u + size us ≡ start + size (u ∷ us) = omega arith in (
       start ∷ ps,
       (
         ap (λ os. start ∷ os) (e ∙ ap (λ n. ps ++ boundaries n vs) sum),
@@ -57,7 +56,7 @@ reached-next body at stop r later next =
       ahead = r.ahead ++ at ∷ [];
       places = r.places ∙ ap (λ os. r.ahead ++ os) next ∙ sym (append_assoc r.ahead (at ∷ []) rest);
       upto = within-append (λ o. o ≤ stop) r.ahead (at ∷ []) (within-weaker (λ o. o ≤ at) (λ o. o ≤ stop) (λ o h. omega (arith, h, later)) r.ahead r.upto)
-      (omega (arith, later), tt);
+          (omega (arith, later), tt);
     }
 
 -- ---- the unit from `at` to `stop`, which has the offset

@@ -1,5 +1,5 @@
 -- A property of all character boundaries of a body holds at the offsets of its rows' places.
-use Rattle.std.proofs.Common.{◌≡◌, ℕ, zero, suc, ◌+◌, ◌≤◌, ◌<◌, ◌%◌, ◌==◌, cond, Bool, true, false, List, [], ◌∷◌, ◌++◌, map, length, reverse, get_or, find}
+use Rattle.std.proofs.Common.{◌≡◌, ℕ, zero, suc, ◌+◌, ◌<◌, ◌%◌, ◌==◌, cond, Bool, true, false, List, [], ◌∷◌, ◌++◌, map, length, reverse, get_or, find}
 use Rattle.std.proofs.Common.{Option, Some, None, option_map, chars, IsUtf8, IsCharBoundary, refl, sym, ap, subst, arith}
 use Rattle.std.specs.Prelude.{All}
 use Rattle.std.specs.List.{zip}

@@ -176,6 +176,13 @@ module _ (body : List ℕ) (utf8 : IsUtf8 body) where
     pub part-at : (i : ℕ) → IsPart body (first_offset (drop i (units ucd w body)))
     part-at i = part-from i 0 [] (graphemes true body) refl refl refl (IsCharBoundary-start body utf8)
 
+empty-text : (text : List ℕ) → length text ≡ 0 → text ≡ []
+empty-text [] h = refl
+empty-text (b ∷ bs) h = absurd (omega (arith, h))
+
+pub no-characters : (text : List ℕ) → length text ≡ 0 → chars text ≡ []
+no-characters text h = ap chars (empty-text text h) ∙ chars-nil
+
 -- nothing is left at the end
 pub none-left : (body : List ℕ) (at : ℕ) → length body ≤ at → graphemes true (drop at body) ≡ []
 unfolding segments cut
@@ -191,6 +198,7 @@ pub record IsReadable (ucd : Data) (body : List ℕ) (at : ℕ) : Type 0 where
   pub alike : IsNoMatter ucd (last-kinds ucd Other Other part.front).1 (first_kind ucd (graphemes true (drop at body)))
 
 pub readable-start : (ucd : Data) (body : List ℕ) (utf8 : IsUtf8 body) → IsReadable ucd body 0
+unfolding part-start
 readable-start ucd body utf8 = record { part = part-start body utf8; alike = none-before (first_kind ucd (graphemes true (drop 0 body))) }
 
 pub readable-unsigned : (ucd : Data) (body : List ℕ) (at : ℕ) → IsPart body at → is_sign (first_kind ucd (graphemes true (drop at body))) ≡ false

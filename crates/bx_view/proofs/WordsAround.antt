@@ -3,19 +3,20 @@ use Rattle.std.proofs.Common.{◌≡◌, ℕ, ◌+◌, ◌-◌, ◌<◌, ◌≤�
 use Rattle.std.proofs.Common.{Option, Some, None, unwrap_or, IsUtf8, IsCharBoundary, refl, sym, ap, subst, ◌∙◌, arith}
 use Rattle.std.specs.Option.{option_or}
 use Rattle.std.proofs.lemmas.Bool.Decides.{nat_tests}
-use Rattle.std.proofs.lemmas.List.{reverse-append}
+use Rattle.std.proofs.lemmas.List.{drop-drop, reverse-append}
 use Rattle.std.proofs.lemmas.List.Folds.{find-append}
-use Rattle.std.proofs.lemmas.Str.{IsCharBoundary-start}
+use Rattle.std.proofs.lemmas.Str.{IsCharBoundary-start, IsUtf8-drop}
 use Rattle.unicode_segmentation.specs.Grapheme.{graphemes}
 use Rattle.bx_ucd.specs.Data.{Data}
-use Rattle.bx_rows.proofs.cells_lemmas.Rest.{next-cluster}
+use Rattle.bx_rows.proofs.cells_lemmas.Rest.{first-cluster, next-cluster}
 use Rattle.bx_view.specs.declared.moves.unit_kind.UnitKind.{UnitKind}
 use Rattle.bx_view.specs.declared.moves.unit_kind.UnitKind.TheVariants.{Letter, Digit, Mark, LetterSign, DigitSign, Other}
 use Rattle.bx_view.specs.Numbers.{boundaries}
 use Rattle.bx_view.specs.Words.{begins_word, body_words, first_kind, goes_on, is_of_word, kind_of, put_if, put_pair_if, unit_start, unit_stop}
 use Rattle.bx_view.specs.Words.{word_around, word_end, word_spans, word_starts}
 use Rattle.bx_view.proofs.Within.{Lies, Within, find-lies, within-reverse}
-use Rattle.bx_view.proofs.WordParts.{none-found, within-weaker, words-from}
+use Rattle.bx_view.proofs.UnitSteps.{next-bound}
+use Rattle.bx_view.proofs.WordParts.{none-found, none-left, put-within, within-weaker, words-from}
 
 -- ---- kinds
 
@@ -92,6 +93,10 @@ if-reaches start begin end = cond (nat_lt start end) (Some (begin, end)) None
 abbrev has-start : ℕ → ℕ × ℕ → Bool
 has-start start w = nat_le w.0 start && nat_lt start w.1
 
+-- the end of a word that goes on, else its start
+abbrev end-or : Bool → ℕ → ℕ → ℕ
+end-or b end at = elim b [ true ↦ end | false ↦ at ]
+
 some-or : (x : Option ℕ) (o : ℕ) → option_or x (Some o) ≡ None → ⊥
 some-or None o e = cc e
 some-or (Some p) o e = cc e
@@ -148,21 +153,20 @@ module _ (ucd : Data) (body : List ℕ) (utf8 : IsUtf8 body) (start : ℕ) where
       put-word (begins_word s f k) at end (word_starts ucd f k (at + length u) us) (word_spans ucd f k (at + length u) us)
       (spans-found f k (at + length u) us next.boundary (sym next.own))
       (λ begins.
-      let word = of-word s f k begins in
-      (
+      let word = of-word s f k begins in (
         ap (word_end ucd Other at) e ∙ ap (λ b. elim (b || goes_on Other k (first_kind ucd us)) [ true ↦ end | false ↦ at ]) word,
         starts-past ucd f k (at + length u) us (λ w. on-after f k (first_kind ucd us) word),
       ))
 
   -- where no word begins up to the unit, none begins at the body's start
   at-start : (b goes : Bool) (rest : List ℕ) (end : ℕ) → (b ≡ false → goes ≡ false) → find upto (reverse (put_if (b && not false) 0 rest)) ≡ None
-      → elim (b || goes) [ true ↦ end | false ↦ 0 ] ≡ 0
+      → end-or (b || goes) end 0 ≡ 0
   at-start true goes rest end off none =
       let here : upto 0 ≡ true = grind (arith, nat_tests) in
       absurd (some-or (find upto (reverse rest)) 0
       (sym (ap (find upto) (reverse-append (0 ∷ []) rest) ∙ find-append upto (reverse rest) (0 ∷ [])
       ∙ ap (λ b. option_or (find upto (reverse rest)) (cond b (Some 0) None)) here) ∙ none))
-  at-start false goes rest end off none = ap (λ b. elim b [ true ↦ end | false ↦ 0 ]) (off refl)
+  at-start false goes rest end off none = ap (λ b. end-or b end 0) (off refl)
 
   none-at-start : (us : List (List ℕ)) → find upto (reverse (word_starts ucd Other Other 0 us)) ≡ None → word_end ucd Other 0 us ≡ 0
   none-at-start [] none = refl
@@ -280,3 +284,62 @@ stop-order body offset = stop-found offset (boundaries 0 (graphemes true body))
 pub word-order : (ucd : Data) (body : List ℕ) (start : ℕ) → (word_around ucd body start).0 ≤ (word_around ucd body start).1
 word-order ucd body start =
     found-order start (start, unit_stop body start) (stop-order body start) (word_spans ucd Other Other 0 (graphemes true body))
+
+-- ---- the boundaries of units are boundaries of characters
+
+chars-within : (body : List ℕ) → IsUtf8 body → (at : ℕ) (us : List (List ℕ)) → IsCharBoundary body at → graphemes true (drop at body) ≡ us
+    → Within (IsCharBoundary body) (boundaries at us)
+chars-within body utf8 at [] bound e = (bound, tt)
+chars-within body utf8 at (u ∷ us) bound e =
+    let left : drop (length u) (drop at body) ≡ drop (at + length u) body = drop-drop (length u) at body in
+    let first = first-cluster (drop at body) u us (IsUtf8-drop body at utf8 bound) e in
+    let next = next-bound body at u us utf8 bound e in
+    (bound, chars-within body utf8 (at + length u) us next.bounds (sym (first.own ∙ ap (graphemes true) left)))
+
+starts-lie : (P : ℕ → Type 0) (ucd : Data) (s f : UnitKind) (at : ℕ) (us : List (List ℕ)) → Within P (boundaries at us) → Within P (word_starts ucd s f at us)
+starts-lie P ucd s f at [] a = tt
+starts-lie P ucd s f at (u ∷ us) a =
+    let k = kind_of ucd u in
+    put-within P (begins_word s f k) at (word_starts ucd f k (at + length u) us) a.0 (starts-lie P ucd f k (at + length u) us a.1)
+
+pub bounds-within : (body : List ℕ) → IsUtf8 body → Within (IsCharBoundary body) (boundaries 0 (graphemes true body))
+bounds-within body utf8 = chars-within body utf8 0 (graphemes true body) (IsCharBoundary-start body utf8) refl
+
+-- the last start of a word before an offset, or the body's start
+pub begin-bound : (ucd : Data) (body : List ℕ) → IsUtf8 body → (bound begin : ℕ)
+    → begin ≡ unwrap_or (find (λ o. nat_lt o bound) (reverse (body_words ucd body))) 0 → IsCharBoundary body begin
+begin-bound ucd body utf8 bound begin e =
+    let P = IsCharBoundary body in
+    let start = IsCharBoundary-start body utf8 in
+    let all = bounds-within body utf8 in
+    let words = starts-lie P ucd Other Other 0 (graphemes true body) all in
+    let before : ℕ → Bool = λ o. nat_lt o bound in
+    subst P (sym e) (or-lies P ucd (find before (reverse (body_words ucd body))) 0
+    (find-lies P before (reverse (body_words ucd body)) (within-reverse P (body_words ucd body) words)) start)
+
+-- ---- at a body's end
+
+pub past-stop : (body : List ℕ) → IsUtf8 body → (offset : ℕ) → length body ≤ offset → unit_stop body offset ≡ offset
+past-stop body utf8 offset past =
+    let os = boundaries 0 (graphemes true body) in
+    ap (λ x. unwrap_or x offset) (none-found (nat_lt offset) os
+    (within-weaker (IsCharBoundary body) (λ o. nat_lt offset o ≡ false)
+    (λ o b. let short : o ≤ length body = b.0 in let low : o ≤ offset = omega (arith, short, past) in grind (arith, nat_tests)) os
+    (bounds-within body utf8)))
+
+-- ---- an empty body
+
+abbrev zero-or : Bool → ℕ
+zero-or b = unwrap_or (cond b (Some 0) None) 0
+
+either-zero : (b : Bool) → zero-or b ≡ 0
+either-zero true = refl
+either-zero false = refl
+
+pub empty-word : (ucd : Data) (body : List ℕ) (offset : ℕ) → length body ≡ 0 → (0, 0) ≡ word_around ucd body (unit_start body offset)
+empty-word ucd body offset none =
+    let gs = none-left body 0 (omega (arith, none)) in
+    let last = min offset (length body - 1) in
+    let start = ap (λ us. unwrap_or (find (λ o. nat_le o last) (reverse (boundaries 0 us))) 0) gs ∙ either-zero (nat_le 0 last) in
+    sym (ap (word_around ucd body) start
+    ∙ ap (λ us. unwrap_or (find (has-start 0) (word_spans ucd Other Other 0 us)) (0, unwrap_or (find (nat_lt 0) (boundaries 0 us)) 0)) gs)

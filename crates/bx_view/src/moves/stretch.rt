@@ -90,8 +90,11 @@ fn word_around<D: BidiData>(
     requires stop { stop ≡ unit_stop paragraph.now.body start }
     ensures { result ≡ word_around (D.data tables.now) paragraph.now.body start }
 {
+    let body = paragraph.body();
+    // The length is a `usize`, so the start is below the greatest one.
+    let _len = body.len();
     let begin = start_before(paragraph, start + 1, tables);
-    let end = word_end(paragraph.body(), begin, tables);
+    let end = word_end(body, begin, tables);
     if start < end {
         return (begin, end);
     }

@@ -3,7 +3,7 @@
 ghost use Rattle.std.specs.Prelude.{◌≡◌};
 ghost use Rattle.bx_view.specs.Words.{begins_word, goes_on, is_digit, is_digit_sign, is_letter, is_letter_sign, is_of_word, is_sign, kind_of, kind_of_class, sign_of};
 
-use bx_common::is_direction_mark;
+use bx_common::{first_char, is_direction_mark};
 use bx_ucd::{BidiData, Class};
 
 /// What a unit is to a word.
@@ -66,14 +66,13 @@ fn kind_of_class(class: Class, sign: UnitKind) -> UnitKind
 pub(crate) fn kind_of<D: BidiData>(unit: &str, tables: &D) -> UnitKind
     ensures { result ≡ kind_of (D.data tables.now) unit.now }
 {
-    let mut chars = unit.chars();
-    let Some(c) = chars.next() else {
+    let Some((c, rest)) = first_char(unit) else {
         return UnitKind::Other;
     };
     if is_direction_mark(c) {
         return UnitKind::Other;
     }
-    match chars.next() {
+    match first_char(rest) {
         Some(_) => kind_of_class(tables.class(c), UnitKind::Other),
         None => kind_of_class(tables.class(c), sign_of(c)),
     }

@@ -1,4 +1,4 @@
-use Rattle.std.proofs.Common.{ap, sym, subst}
+use Rattle.std.proofs.Common.{sym, subst}
 use Rattle.bx_view.specs.Standing.{IsSpan}
 use Rattle.bx_view.proofs.Numbers.{paragraph-span}
 use Rattle.bx_view.proofs.span.current_span.Goals as goal

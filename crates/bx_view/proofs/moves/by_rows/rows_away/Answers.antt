@@ -1,4 +1,4 @@
-use Rattle.std.proofs.Common.{◌≡◌, ◌∙◌, ap, length, sym}
+use Rattle.std.proofs.Common.{◌∙◌, ap, length, sym}
 use Rattle.bx_view.specs.FoundRow.{rows_by}
 use Rattle.bx_view.specs.Moves.{row_away, row_home, to_row}
 use Rattle.bx_view.specs.TextRows.{row_of}
@@ -27,7 +27,7 @@ returns-clause-place g c =
     let place = c.args.place in
     let on = c.in_ok-at.ensures.row in
     let further = keeps-then ucd old v later c.row_at.ensures.keeps c.row_away.ensures.keeps in
-    c.in_ok-place.ensures _ (c.in_ok-there.ensures.row _ on)
+    c.in_ok-place.ensures.place _ (c.in_ok-there.ensures.row _ on)
     ∙ ap (λ rs. to_row later.w (rows_by ucd later text) c.args.goal place (row_away (length rs) c.args.way c.args.count (row_of rs place)))
     (rows-kept ucd old v text c.row_at.ensures.keeps)
     ∙ kept ucd old later text further

@@ -1,4 +1,4 @@
-use Rattle.std.proofs.Common.{◌==◌, ◌∙◌, true, false, ap, eq-eqb, ne_eqb, sym}
+use Rattle.std.proofs.Common.{◌∙◌, true, false, ap, eq-eqb, ne_eqb, sym}
 use Rattle.bx_view.specs.declared.moves.Goal.TheVariants.{Column, Start}
 use Rattle.bx_view.specs.FoundRow.{rows_by}
 use Rattle.bx_view.specs.Moves.{row_home}

@@ -6,8 +6,8 @@ use Rattle.bx_view.specs.Numbers.{boundaries}
 use Rattle.bx_view.proofs.UnitsAround.{IsReached}
 use Rattle.bx_view.proofs.moves.stretch.unit_around.Given as goal
 
-abbrev pub invariant-loop-at : goal.invariant-loop-at
-invariant-loop-at g l = record {
+abbrev pub invariant-loop-stop : goal.invariant-loop-stop
+invariant-loop-stop g l = record {
   low : l.at ≤ l.fn.offset;
   later : l.at < l.stop;
   bound : IsCharBoundary l.paragraph.body l.stop;
@@ -15,5 +15,5 @@ invariant-loop-at g l = record {
   next : boundaries l.at (graphemes true (drop l.at l.paragraph.body)) ≡ l.at ∷ boundaries l.stop (graphemes true (drop l.stop l.paragraph.body));
 }
 
-abbrev pub decreases-loop-at : goal.decreases-loop-at
-decreases-loop-at g l = length l.paragraph.body - l.stop
+abbrev pub decreases-loop-stop : goal.decreases-loop-stop
+decreases-loop-stop g l = length l.paragraph.body - l.stop

@@ -4,13 +4,13 @@ use Rattle.bx_view.specs.Words.{word_end}
 use Rattle.bx_view.proofs.WordParts.{none-left}
 use Rattle.bx_view.proofs.moves.stretch.word_end.Goals as goal
 
-pub returns-then-is_inside : goal.returns-then-is_inside
-returns-then-is_inside g c =
+pub returns-then-not-is_inside : goal.returns-then-not-is_inside
+returns-then-not-is_inside g c =
     let ucd = g.D.BidiData.data c.args.tables.now in
     let stop = c.unit_at-kind.result.1 in
     let rest = graphemes true (drop stop c.args.body.now) in
     sym (c.loop-at.invariant.same ∙ c.unit_at-kind.ensures.end c.loop-at.last
-    ∙ ap (λ b. elim b [ true ↦ word_end ucd c.unit_at-kind.result.0 stop rest | false ↦ c.loop-at.at ]) (sym c.is_inside.ensures ∙ c.if-is_inside.false))
+    ∙ ap (λ b. elim b [ true ↦ word_end ucd c.unit_at-kind.result.0 stop rest | false ↦ c.loop-at.at ]) (sym c.is_inside.ensures ∙ c.if-not-is_inside.true))
 
 pub loop-at-preserved : goal.loop-at-preserved
 loop-at-preserved g c =
@@ -20,7 +20,7 @@ loop-at-preserved g c =
     record {
       bound = c.unit_at-kind.ensures.stop.1;
       same = c.loop-at.invariant.same ∙ c.unit_at-kind.ensures.end c.loop-at.last
-          ∙ ap (λ b. elim b [ true ↦ word_end ucd c.unit_at-kind.result.0 stop rest | false ↦ c.loop-at.at ]) (sym c.is_inside.ensures ∙ c.if-is_inside.true);
+          ∙ ap (λ b. elim b [ true ↦ word_end ucd c.unit_at-kind.result.0 stop rest | false ↦ c.loop-at.at ]) (sym c.is_inside.ensures ∙ c.if-not-is_inside.false);
     }
 
 pub returns : goal.returns

@@ -1,5 +1,5 @@
-use Rattle.std.proofs.Common.{◌≡◌, ◌+◌, ◌-◌, ◌<◌, ◌≤◌, ◌∙◌, ap, length, refl, subst, sym, true, arith, rules}
-use Rattle.bx_view.specs.Numbers.{count, start_at}
+use Rattle.std.proofs.Common.{◌≡◌, ◌+◌, ◌-◌, ◌<◌, ◌≤◌, ◌∙◌, length, refl, subst, sym, true, arith, rules}
+use Rattle.bx_view.specs.Numbers.{count}
 use Rattle.bx_view.proofs.WalkSteps.{previous-number}
 use Rattle.bx_view.proofs.moves_lemmas.CachedStops.{start-order, start-short}
 use Rattle.bx_view.proofs.moves.word_moves.start_above.Goals as goal

@@ -1,5 +1,4 @@
-use Rattle.std.proofs.Common.{◌+◌, ◌<◌, ◌≤◌, ◌∙◌, ap, length, nat_le, sym, arith}
-use Rattle.bx_view.specs.Numbers.{count, start_at}
+use Rattle.std.proofs.Common.{◌+◌, ◌≤◌, ◌∙◌, ap, length, nat_le, arith}
 use Rattle.bx_view.proofs.Numbers.{lengths-count}
 use Rattle.bx_view.proofs.moves_lemmas.CachedStops.{stop-short}
 use Rattle.bx_view.proofs.moves.word_moves.stop_below.Goals as goal

@@ -1,4 +1,4 @@
-use Rattle.std.proofs.Common.{◌∙◌, true, ap, drop, find, nat_lt, reverse, sym, arith}
+use Rattle.std.proofs.Common.{◌∙◌, true, false, Some, ap, drop, find, nat_lt, reverse, sym, arith}
 use Rattle.std.specs.Option.{option_or}
 use Rattle.unicode_segmentation.specs.Grapheme.{graphemes}
 use Rattle.bx_view.specs.Words.{begins_word, word_starts}
@@ -19,7 +19,7 @@ loop-at-preserved g c =
           ∙ ap (λ os. option_or (find (λ o. nat_lt o c.args.bound) (reverse os)) l.found) (c.unit_at-kind.ensures.starts l.second l.first)
           ∙ last-later c.args.bound l.at rest l.found (begins_word l.second l.first kind) (omega (arith, c.loop-at-test.true, c.min-end.ensures))
           ∙ ap (λ x. option_or (find (λ o. nat_lt o c.args.bound) (reverse rest)) x)
-          (sym (c.later-found.ensures ∙ ap (λ b. elim b [ true ↦ _ | false ↦ _ ]) c.begins_word.ensures));
+          (sym (c.later-found.ensures ∙ ap (λ b. elim b [ true ↦ Some l.at | false ↦ l.found ]) c.begins_word.ensures));
     }
 
 pub returns : goal.returns

@@ -1,4 +1,4 @@
-use Rattle.std.proofs.Common.{◌≡◌, ◌∙◌, IsCharBoundary, true, ap, drop, find, nat_lt, reverse, subst, sym, unwrap_or, arith}
+use Rattle.std.proofs.Common.{◌∙◌, IsCharBoundary, true, ap, drop, find, nat_lt, reverse, subst, sym, unwrap_or, arith}
 use Rattle.std.proofs.lemmas.Str.{IsCharBoundary-start}
 use Rattle.unicode_segmentation.specs.Grapheme.{graphemes}
 use Rattle.bx_view.specs.Words.{body_words, word_starts}
@@ -43,8 +43,8 @@ loop-row-preserved g c =
     let none = ap (λ b. find (λ o. nat_lt o bound) (reverse (word_starts ucd Mark Mark start (graphemes true (drop start b))))) (sym c.body-body.ensures)
     ∙ sym c.last_start.ensures ∙ c.in_default.is in
     record {
-      within = omega (arith, c.loop-row.invariant.within, c.row_to_read-row-2.ensures.order);
-      reads = c.row_to_read-row-2.ensures.reads;
+      within = omega (arith, c.loop-row.invariant.within, c.row_to_read-row-in-loop-row.ensures.order);
+      reads = c.row_to_read-row-in-loop-row.ensures.reads;
       same = c.loop-row.invariant.same ∙ last-nearer ucd l.body start reads bound none
           ∙ ap (λ n. find (λ o. nat_lt o n) (reverse (body_words ucd l.body))) (sym c.bound_above-bound.ensures);
     }

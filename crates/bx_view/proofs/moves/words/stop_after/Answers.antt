@@ -1,4 +1,4 @@
-use Rattle.std.proofs.Common.{◌≡◌, ◌+◌, ◌≤◌, ◌∙◌, IsCharBoundary, true, ap, drop, find, length, nat_le, subst, sym, unwrap_or, arith}
+use Rattle.std.proofs.Common.{◌+◌, ◌∙◌, IsCharBoundary, true, ap, drop, find, length, nat_le, subst, sym, unwrap_or, arith}
 use Rattle.unicode_segmentation.specs.Grapheme.{graphemes}
 use Rattle.bx_view.specs.Words.{word_starts}
 use Rattle.bx_view.specs.declared.moves.unit_kind.UnitKind.TheVariants.{Mark}

@@ -1,5 +1,5 @@
 use Rattle.std.proofs.Common.{◌≡◌, ◌≤◌, ◌+◌, ◌∙◌, ap, false, length, refl, sym, true, arith, rules}
-use Rattle.bx_view.specs.Numbers.{count, start_at}
+use Rattle.bx_view.specs.Numbers.{count}
 use Rattle.bx_view.proofs.Numbers.{lengths-count}
 use Rattle.bx_view.proofs.CachedRows.{next-nowhere, next-there}
 use Rattle.bx_view.proofs.WalkSteps.{next-inside, next-number, no-next}

@@ -1,6 +1,5 @@
 use Rattle.std.proofs.Common.{◌≡◌, ◌∙◌, ap, false, refl, sym, true, arith, rules}
 use Rattle.bx_view.specs.Standing.{rows_ahead}
-use Rattle.bx_view.specs.Numbers.{start_at}
 use Rattle.bx_view.proofs.CachedRows.{before-there}
 use Rattle.bx_view.proofs.WalkSteps.{no-previous, previous-number}
 use Rattle.bx_view.proofs.view.View.row_before_along.Goals as goal
