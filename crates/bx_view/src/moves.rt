@@ -16,6 +16,7 @@ mod words;
 use bx_paragraph::Visual;
 pub(crate) use by_rows::{rows_down, rows_up};
 pub use cursor::moved;
+pub(crate) use placed::reads_on;
 pub use pointing::pointed_at;
 pub use shown_place::{kept_goal, to_shown};
 pub use stretch::{stretch_at, unit_at};

@@ -7,9 +7,11 @@ ghost use Rattle.bx_view.specs.TextRef.{IsViewBy, Keeps, StandsOn, bytes, rows};
 ghost use Rattle.bx_view.specs.TextRows.{cell_of, row_of};
 
 use crate::in_row::RowAt;
+use crate::moves::reads_on;
 use crate::text_ref::TextRef;
 use crate::view::View;
 use bx_common::OutOfMemory;
+use bx_paragraph::Visual;
 use bx_ucd::BidiData;
 
 /// The position of a place. Its numbers count from 1.
@@ -42,11 +44,12 @@ impl View {
         let _count = text_ref.index.count();
         let row = self.row(text_ref, at);
         let standing = row.standing(place - at.start)?;
+        let is_rtl = reads_on(&row, Visual::Left);
         Ok(Position {
             column: standing.column,
             paragraph: at.paragraph + 1,
             unit: row.paragraph.units_ahead(at.row) + standing.units_before + 1,
-            is_rtl: row.paragraph.level() % 2 == 1,
+            is_rtl,
         })
     }
 

@@ -2,7 +2,9 @@ use Rattle.std.proofs.Common.{◌+◌, ◌-◌, ◌∙◌, ap, ap₂, arith, nat
 use Rattle.std.specs.Prelude.{count_by}
 use Rattle.bx_paragraph.specs.Layout.{row_by}
 use Rattle.bx_paragraph.specs.LayoutRowRef.{row}
-use Rattle.bx_paragraph.specs.Slots.{column_of}
+use Rattle.bx_paragraph.specs.Slots.{column_of, reads_on}
+use Rattle.bx_paragraph.specs.declared.moves.Visual.TheVariants.{Left}
+use Rattle.bx_view.specs.TextRows.{TextRow}
 use Rattle.bx_view.specs.Placed.{columns}
 use Rattle.bx_view.proofs.UnitNumbers.{number-short, number-counted}
 use Rattle.bx_view.proofs.view.View.position.Goals as goal
@@ -44,4 +46,5 @@ returns g c =
       unit = omega (arith, c.units_ahead.ensures, units)
           ∙ number-counted (g.D.BidiData.data text_ref.tables.now) c.args.self.now text_ref.text.now.edited.text c.args.place c.args.at s.paragraph.now
           text_ref.utf8 c.requires.paragraph c.requires.row c.row-row.ensures.paragraph;
+      direction = c.reads_on-is_rtl.ensures ∙ ap (λ (r : TextRow). reads_on Left r.row) (c.row-row.ensures.row _ c.requires.row);
     }
