@@ -5,6 +5,7 @@ use Rattle.std.specs.Prelude.{true, not, is_some}
 use Rattle.bx_ucd.specs.Data.{Data}
 use Rattle.bx_document.specs.Line as lines
 use Rattle.bx_editor.specs.declared.message.Message.{Message}
+use Rattle.bx_editor.specs.declared.message.Message.TheVariants as messages
 use Rattle.bx_editor.specs.declared.message.Message.TheVariants.{Copied, LineCopied, MarkOff, MarkSet, NothingToCopy, TooLongForClipboard}
 use Rattle.bx_editor.specs.declared.cursor.Soft.TheVariants.{Off, Fresh, Old}
 use Rattle.bx_editor.specs.Editor.{Editor, with_removal}
@@ -87,7 +88,7 @@ after_cut d e =
     else record (with_removal d e ((taken d e).0) ((taken d e).1) false) {
       held = bytes_in e (taken d e);
       whole_line = is_empty (region e);
-      message = held_message e.clipboard (bytes_in e (taken d e)) e.message;
+      message = held_message e.clipboard (bytes_in e (taken d e)) (Some messages.Cut);
     }
 
 -- ---- selections
@@ -141,10 +142,15 @@ tells_copy (Some Copied) = true
 tells_copy (Some LineCopied) = true
 tells_copy _ = false
 
--- whether a key held text that is not too long, by the message that it left: a Copy tells it, and a Cut tells only what else it did
+-- the message is that text was cut
+abbrev pub tells_cut : Option Message → Bool
+tells_cut (Some messages.Cut) = true
+tells_cut _ = false
+
+-- whether a key held text that is not too long, by the message that it left
 abbrev pub is_clip : Key → Option Message → Bool
 is_clip Copy message = tells_copy message
-is_clip Cut message = not (is_some message)
+is_clip Cut message = tells_cut message
 is_clip _ message = false
 
 -- what goes out to the clipboard after a key: the held text, where this key has held it

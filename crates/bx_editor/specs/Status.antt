@@ -26,7 +26,7 @@ use Rattle.bx_editor.specs.declared.search_state.SearchPurpose.{SearchPurpose}
 use Rattle.bx_editor.specs.declared.search_state.SearchPurpose.TheVariants.{Find, Replace}
 use Rattle.bx_editor.specs.declared.message.Message.{Message}
 use Rattle.bx_editor.specs.declared.message.Message.TheVariants.{Saved, SaveFailed, TextFull, NothingToUndo, NothingToRedo, Unsaved, Direction, MarkSet, MarkOff}
-use Rattle.bx_editor.specs.declared.message.Message.TheVariants.{Copied, LineCopied, NothingToCopy, NothingToPut, ViewOnly, FromStart, FromEnd, NotFound, NoLetter, Help}
+use Rattle.bx_editor.specs.declared.message.Message.TheVariants.{Copied, LineCopied, Cut, NothingToCopy, NothingToPut, ViewOnly, FromStart, FromEnd, NotFound, NoLetter, Help}
 use Rattle.bx_editor.specs.declared.message.Message.TheVariants.{MoreHelp, MoreThanOneLine, NoSuchCharacter, Pasting, Replaced, Told, TooLongForClipboard, Notice}
 use Rattle.bx_editor.specs.declared.search_state.SearchState.{SearchState}
 use Rattle.bx_editor.specs.declared.search_state.SearchState.TheVariants.{Off, Begun, Typed, WithBegun, WithTyped, Replacing}
@@ -79,6 +79,7 @@ message_text MarkSet = codes "mark set"
 message_text MarkOff = codes "mark cleared"
 message_text Copied = codes "copied"
 message_text LineCopied = codes "line copied"
+message_text Cut = []
 message_text NothingToCopy = codes "nothing to copy"
 message_text NothingToPut = codes "nothing to paste"
 message_text ViewOnly = codes "view only"
@@ -102,9 +103,10 @@ shown_text told Told = told
 shown_text told (Replaced n) = decimal n ++ message_text (Replaced n)
 shown_text told message = message_text message
 
--- the message after a blank, if there is one
+-- the message after a blank, if there is one; that text was cut is not told
 abbrev pub message_part : List ℕ → Option Message → List ℕ
 message_part told None = []
+message_part told (Some Cut) = []
 message_part told (Some message) = codes " " ++ shown_text told message
 
 -- a star if there are unsaved changes, and the numbers of a paragraph and of a unit in it, both from 1

@@ -1,6 +1,6 @@
 //! What goes out to a clipboard.
 ghost use Rattle.std.specs.Prelude.{◌≡◌, None, Some, MatchOption};
-ghost use Rattle.bx_editor.specs.Region.{clip_of, is_clip, tells_copy};
+ghost use Rattle.bx_editor.specs.Region.{clip_of, is_clip, tells_copy, tells_cut};
 ghost use Rattle.bx_editor.specs.Editor.{with_clipboard};
 
 use crate::editor::Editor;
@@ -15,13 +15,20 @@ fn tells_copy(message: Option<Message>) -> bool
     matches!(message, Some(Message::Copied | Message::LineCopied))
 }
 
+/// Whether the message is that text was cut.
+fn tells_cut(message: Option<Message>) -> bool
+    ensures { result ≡ tells_cut message }
+{
+    matches!(message, Some(Message::Cut))
+}
+
 /// Whether a key held text that is not too long, by the message that it left.
 fn is_clip(key: Key, message: Option<Message>) -> bool
     ensures { result ≡ is_clip key message }
 {
     match key {
         Key::Copy => tells_copy(message),
-        Key::Cut => message.is_none(),
+        Key::Cut => tells_cut(message),
         _ => false,
     }
 }

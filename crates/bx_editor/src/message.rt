@@ -27,6 +27,8 @@ pub enum Message {
     Copied,
     /// The region was empty, and the paragraph was copied with its separator.
     LineCopied,
+    /// The region or the line was cut. The row tells nothing of it.
+    Cut,
     NothingToCopy,
     NothingToPut,
     /// The text is only looked at.
@@ -116,6 +118,7 @@ impl Message {
             Message::MarkOff => "mark cleared",
             Message::Copied => "copied",
             Message::LineCopied => "line copied",
+            Message::Cut => "",
             Message::NothingToCopy => "nothing to copy",
             Message::NothingToPut => "nothing to paste",
             Message::ViewOnly => "view only",

@@ -147,7 +147,7 @@ impl<D: BidiData + Drop> Editor<D> {
         let region = self.region();
         let held = self.document.copy(start, stop)?;
         self.remove(start, stop, false)?;
-        self.message = held_message(self.clipboard, held.as_str(), None);
+        self.message = held_message(self.clipboard, held.as_str(), Some(Message::Cut));
         self.held = held;
         self.whole_line = region.start == region.stop;
         Ok(())

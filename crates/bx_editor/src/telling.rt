@@ -55,8 +55,9 @@ impl<D: BidiData + Drop> Editor<D> {
         ensures printable { IfOk result (λ _. are_ascii_printable
             (message_part (told_at_place (D.data self.old.tables) self.old.editor) self.old.editor.message) ≡ true) }
     {
-        let Some(message) = self.message else {
-            return Ok(());
+        let message = match self.message {
+            None | Some(Message::Cut) => return Ok(()),
+            Some(message) => message,
         };
         line.push_str(" ")?;
         match message {
