@@ -8,5 +8,6 @@ pub mod Numbers
 pub mod Paste
 pub mod PasteTail
 pub mod Sizes
+pub mod Strings
 pub mod Table
 pub mod Translating

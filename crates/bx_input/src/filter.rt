@@ -4,11 +4,13 @@
 ghost use Rattle.std.specs.Prelude.{◌≡◌};
 ghost use Rattle.bx_input.specs.Filter as spec;
 ghost use Rattle.bx_input.specs.Filter.{fed, idled, pause_after, started};
+ghost use Rattle.bx_input.specs.Strings.{begins_string, string_output};
 ghost use Rattle.bx_input.specs.Models.{bytes_of, state_of};
 
 use crate::beginning::Beginning;
+use crate::control_string::is_introducer;
 use crate::filter_state::FilterState;
-use crate::output::{Output, numbers_alone, plain};
+use crate::output::{Output, can, numbers_alone, plain};
 use crate::paste_tail::PasteTail;
 use crate::pause::Pause;
 use crate::step::step;
@@ -45,6 +47,23 @@ fn pause_after(pause: Pause, state: &FilterState) -> Pause
             ..
         } if matches!(pause, Pause::Behind) => Pause::Before,
         _ => Pause::No,
+    }
+}
+
+/// What goes out for a control string whose ESC waits in this state: a CAN (18) if a sequence is open, and of two ESC the first.
+fn string_output(state: &FilterState) -> &'static [u8]
+    ensures { result.now ≡ string_output (state_of state.now) }
+{
+    match state {
+        FilterState::Outside {
+            waiting: Beginning::TwoEscapes,
+            ..
+        } => b"\x1b\x18",
+        FilterState::Outside {
+            waiting: Beginning::Escape,
+            is_open,
+        } => can(*is_open),
+        _ => b"",
     }
 }
 
@@ -112,6 +131,29 @@ impl Filter {
             }
             _ => b"",
         }
+    }
+
+    /// Whether the byte begins a control string: an ESC waits for its introducer.
+    pub(crate) fn begins_string(&self, byte: u8) -> bool
+        ensures { result ≡ begins_string self.now.state byte }
+    {
+        match self.state {
+            FilterState::Outside {
+                waiting: Beginning::Escape | Beginning::TwoEscapes,
+                ..
+            } => is_introducer(byte),
+            _ => false,
+        }
+    }
+
+    /// Drops the ESC of a control string that is whole.
+    pub(crate) fn drop_string(&mut self) -> Output
+        ensures state { self.new ≡ started self.old.erases_by_delete }
+        ensures output { bytes_of result ≡ string_output self.old.state }
+    {
+        let output = string_output(&self.state);
+        *self = Filter::new(self.erases_by_delete);
+        plain(output, None)
     }
 
     /// Whether a paste is under way.

@@ -36,7 +36,7 @@ impl Inbox {
     {
         Inbox {
             alloc,
-            translator: Translator::new(erases_by_delete),
+            translator: Translator::new(alloc, erases_by_delete),
             held: Vec::new(alloc),
             ready: Vec::new(alloc),
             is_over: false,
@@ -63,7 +63,7 @@ impl Inbox {
             return Ok(false);
         };
         let count = FRAME_HEAD + frame.bytes.len();
-        let mut translator = self.translator.copied();
+        let mut translator = self.translator.copied()?;
         let mut ready = Vec::new(self.alloc);
         translator.translate(frame, &mut ready)?;
         self.translator = translator;
@@ -80,7 +80,7 @@ impl Inbox {
         ensures left { left self.new [] ≡ left self.old [] }
         ensures over { OnOk result (self.new.is_over ≡ true) }
     {
-        let mut translator = self.translator.copied();
+        let mut translator = self.translator.copied()?;
         let mut ready = Vec::new(self.alloc);
         translator.finish(&mut ready)?;
         self.translator = translator;

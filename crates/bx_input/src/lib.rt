@@ -3,7 +3,8 @@
 //! Terminals send bytes that the editor has no key for, or has an older one for than the key that they come from: arrows,
 //! Page Up and Page Down, the Home and End of rxvt, keys with Shift, Alt or Ctrl, the keys that erase, Enter, the Delete of
 //! st, F1 to F4, F7 and F10, the keypad's digits, pastes, and reports of the mouse. `specs/Table.antt` has the table, `specs/Mouse.antt` the
-//! reports. All else passes unchanged, broken sequences too. A paste becomes text between two keys that tell its start and its end: of its control bytes only TAB and
+//! reports, `specs/Sizes.antt` the sizes of the window, which Fill follows, and `specs/Strings.antt` the control strings, which give nothing.
+//! All else passes unchanged, broken sequences too. A paste becomes text between two keys that tell its start and its end: of its control bytes only TAB and
 //! LF are left, so it can neither save nor quit nor move nor erase, nor set a mark, cut or search.
 //!
 //! The host sends what the terminal typed in frames, between sizes of the window and notices (`specs/Translating.antt`).
@@ -13,6 +14,7 @@
 mod after;
 mod after_csi;
 mod beginning;
+mod control_string;
 mod filter;
 mod filter_state;
 mod frame;

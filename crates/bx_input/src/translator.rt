@@ -1,17 +1,19 @@
 //! The host's frames as the bytes that the session reads.
 
-ghost use Rattle.std.specs.Prelude.{◌≡◌, ◌≤◌, ◌++◌, OnOk, drop, length};
+ghost use Rattle.std.specs.Prelude.{◌≡◌, ◌≤◌, ◌++◌, [], IfOk, OnOk, drop, length};
 ghost use Rattle.bx_input.specs.Translating as spec;
 ghost use Rattle.bx_input.specs.Models.{bytes_of};
 ghost use Rattle.bx_input.specs.Translating.{begun};
 
+use crate::control_string::{ends_string, is_short};
 use crate::filter::Filter;
 use crate::frame::{Frame, IDLE, NOTICE, SIZE, TYPED};
 use crate::output::{Output, append};
 use bx_keys::Decoder;
 use itoa::Buffer;
-use std::alloc::AllocError;
+use std::alloc::{AllocError, Global};
 use std::marker::Model;
+use std::mem;
 
 /// Rows and columns of a window.
 #[derive(Clone, Copy)]
@@ -25,6 +27,8 @@ struct Size {
 #[derive(Drop)]
 pub struct Translator {
     filter: Filter,
+    /// The bytes of a control string behind its ESC, which waits in the filter; none if no string waits.
+    string: Vec<u8>,
     /// A decoder that is where the session's will be after the same bytes.
     ahead: Decoder,
     /// A size that waits for the end of a key.
@@ -39,7 +43,7 @@ impl Model for Translator {
 
     ghost Value = { Translating };
 
-    ghost view = { λ t. record { filter = t.filter; rest = t.ahead; size = option_map size_of t.size; notice = t.notice } };
+    ghost view = { λ t. record { filter = t.filter; string = t.string.items; rest = t.ahead; size = option_map size_of t.size; notice = t.notice } };
 }
 
 /// The decoder after these bytes.
@@ -77,11 +81,12 @@ fn append_notice(out: &mut Vec<u8>, number: u8) -> Result<(), AllocError>
 
 impl Translator {
     /// A translator at the start of its input. `erases_by_delete` says whether the terminal's own erase character is DELETE, 7F.
-    pub fn new(erases_by_delete: bool) -> Translator
+    pub fn new(alloc: Global, erases_by_delete: bool) -> Translator
         ensures { result ≡ begun erases_by_delete }
     {
         Translator {
             filter: Filter::new(erases_by_delete),
+            string: Vec::new(alloc),
             ahead: Decoder::new(),
             size: None,
             notice: None,
@@ -89,15 +94,18 @@ impl Translator {
     }
 
     /// A copy of this translator.
-    pub(crate) fn copied(&self) -> Translator
-        ensures { result ≡ self.now }
+    pub(crate) fn copied(&self) -> Result<Translator, AllocError>
+        ensures { IfOk result (λ copy. copy ≡ self.now) }
     {
-        Translator {
+        let mut string = Vec::new(*self.string.allocator());
+        string.extend_from_slice(&self.string)?;
+        Ok(Translator {
             filter: self.filter.copied(),
+            string,
             ahead: self.ahead,
             size: self.size,
             notice: self.notice,
-        }
+        })
     }
 
     /// Appends what the session reads for a frame.
@@ -124,6 +132,7 @@ impl Translator {
         ensures state { OnOk result (self.new ≡ (spec.after_end self.old).state) }
         ensures output { OnOk result (out.new.items ≡ out.old.items ++ (spec.after_end self.old).output) }
     {
+        self.break_string(out)?;
         let output = self.filter.finish();
         self.send_output(&output, out)
     }
@@ -212,14 +221,86 @@ impl Translator {
         }
     }
 
+    /// Feeds the filter.
+    fn feed(&mut self, byte: u8, out: &mut Vec<u8>) -> Result<(), AllocError>
+        ensures state { OnOk result (self.new ≡ (spec.after_fed byte self.old).state) }
+        ensures output { OnOk result (out.new.items ≡ out.old.items ++ (spec.after_fed byte self.old).output) }
+    {
+        let output = self.filter.feed(byte);
+        self.send_output(&output, out)?;
+        self.settle(out)
+    }
+
+    /// Feeds the filter several bytes.
+    fn feed_all(&mut self, bytes: &[u8], out: &mut Vec<u8>) -> Result<(), AllocError>
+        ensures state { OnOk result (self.new ≡ (spec.after_all_fed bytes.now self.old).state) }
+        ensures output { OnOk result (out.new.items ≡ out.old.items ++ (spec.after_all_fed bytes.now self.old).output) }
+    {
+        for byte in bytes {
+            self.feed(*byte, out)?;
+        }
+        Ok(())
+    }
+
+    /// Feeds the filter the bytes of a control string that is none after all.
+    fn break_string(&mut self, out: &mut Vec<u8>) -> Result<(), AllocError>
+        ensures state { OnOk result (self.new ≡ (spec.after_broken self.old.string self.old).state) }
+        ensures output { OnOk result (out.new.items ≡ out.old.items ++ (spec.after_broken self.old.string self.old).output) }
+    {
+        let empty = Vec::new(*self.string.allocator());
+        let string = mem::replace(&mut self.string, empty);
+        self.feed_all(string.as_slice(), out)
+    }
+
+    /// Drops a control string that is whole.
+    fn drop_string(&mut self, out: &mut Vec<u8>) -> Result<(), AllocError>
+        ensures state { OnOk result (self.new ≡ (spec.after_whole self.old).state) }
+        ensures output { OnOk result (out.new.items ≡ out.old.items ++ (spec.after_whole self.old).output) }
+    {
+        self.string.clear();
+        let output = self.filter.drop_string();
+        self.send_output(&output, out)?;
+        self.settle(out)
+    }
+
+    /// Takes a typed byte where no control string waits.
+    fn type_first(&mut self, byte: u8, out: &mut Vec<u8>) -> Result<(), AllocError>
+        requires { self.old.string ≡ [] }
+        ensures state { OnOk result (self.new ≡ (spec.after_first byte self.old).state) }
+        ensures output { OnOk result (out.new.items ≡ out.old.items ++ (spec.after_first byte self.old).output) }
+    {
+        if self.filter.begins_string(byte) {
+            self.string.push(byte)?;
+            return Ok(());
+        }
+        self.feed(byte, out)
+    }
+
+    /// Takes a typed byte in a control string.
+    fn type_in_string(&mut self, byte: u8, out: &mut Vec<u8>) -> Result<(), AllocError>
+        ensures state { OnOk result (self.new ≡ (spec.after_in_string byte self.old).state) }
+        ensures output { OnOk result (out.new.items ≡ out.old.items ++ (spec.after_in_string byte self.old).output) }
+    {
+        if ends_string(&self.string, byte) {
+            return self.drop_string(out);
+        }
+        self.string.push(byte)?;
+        if is_short(&self.string) {
+            return Ok(());
+        }
+        self.break_string(out)
+    }
+
     /// Takes a typed byte.
     fn type_byte(&mut self, byte: u8, out: &mut Vec<u8>) -> Result<(), AllocError>
         ensures state { OnOk result (self.new ≡ (spec.after_typed byte self.old).state) }
         ensures output { OnOk result (out.new.items ≡ out.old.items ++ (spec.after_typed byte self.old).output) }
     {
-        let output = self.filter.feed(byte);
-        self.send_output(&output, out)?;
-        self.settle(out)
+        if self.string.is_empty() {
+            self.type_first(byte, out)
+        } else {
+            self.type_in_string(byte, out)
+        }
     }
 
     /// Takes typed bytes.
@@ -237,6 +318,15 @@ impl Translator {
     fn idle(&mut self, out: &mut Vec<u8>) -> Result<(), AllocError>
         ensures state { OnOk result (self.new ≡ (spec.after_idle self.old).state) }
         ensures output { OnOk result (out.new.items ≡ out.old.items ++ (spec.after_idle self.old).output) }
+    {
+        self.break_string(out)?;
+        self.pause(out)
+    }
+
+    /// Tells the filter of a pause.
+    fn pause(&mut self, out: &mut Vec<u8>) -> Result<(), AllocError>
+        ensures state { OnOk result (self.new ≡ (spec.after_pause self.old).state) }
+        ensures output { OnOk result (out.new.items ≡ out.old.items ++ (spec.after_pause self.old).output) }
     {
         let key = self.filter.idle();
         self.send(key, out)?;

@@ -1,5 +1,5 @@
 -- Worked examples of frames: what the session reads for the bytes of the pipe.
-use Rattle.std.proofs.Common.{◌≡◌, false, [], ◌∷◌, ◌++◌, map, refl}
+use Rattle.std.proofs.Common.{◌≡◌, ℕ, ◌/◌, ◌%◌, false, List, [], ◌∷◌, ◌++◌, length, map, refl}
 use Rattle.std.specs.Prelude.{codes}
 use Rattle.std.specs.Fmt.{digits}
 use Rattle.bx_input.specs.Translating.{begun, notice_bytes, size_bytes}
@@ -37,6 +37,49 @@ a_pause_before_the_paste = refl
 
 pub a_pause_in_a_letter : heard (codes "b\0\u{7}\u{1b}[200~" ++ 0xD7 ∷ (codes "i\0\0b\0\u{1}" ++ 0x90 ∷ [])) (begun false) ≡ codes "\u{1b}[90~" ++ 0xD7 ∷ 0x90 ∷ []
 a_pause_in_a_letter = refl
+
+-- ---- control strings give nothing
+
+abbrev typed : List ℕ → List ℕ
+typed bs = 0x62 ∷ length bs / 256 ∷ length bs % 256 ∷ bs
+
+abbrev heard_typed : List ℕ → List ℕ
+heard_typed bs = heard (typed bs) (begun false)
+
+pub an_answer : heard_typed (codes "x\u{1b}]11;rgb:ffff/0000/0000\u{7}y") ≡ codes "xy"
+an_answer = refl
+
+pub all_kinds : heard_typed (codes "x\u{1b}Pa\u{1b}\\\u{1b}X\u{7}\u{1b}^a\r\u{3}\u{1b}\\\u{1b}_\u{1b}[Ab\u{7}y") ≡ codes "xy"
+all_kinds = refl
+
+pub keys_in_a_string : heard_typed (codes "\u{1b}]a\u{1b}[Ab\r\n\u{3}\u{1b}\\y") ≡ codes "y"
+keys_in_a_string = refl
+
+-- the end of the input breaks one off, and a pause does
+pub a_string_without_an_end : heard_typed (codes "\u{1b}]a") ≡ codes "\u{1b}]a"
+a_string_without_an_end = refl
+
+pub a_pause_in_a_string : heard (typed (codes "\u{1b}]a") ++ (codes "i\0\0" ++ typed (codes "b\u{7}"))) (begun false) ≡ codes "\u{1b}]ab\u{1b}[84~"
+a_pause_in_a_string = refl
+
+pub a_pause_behind_its_first_bytes : heard (typed (codes "\u{1b}P") ++ (codes "i\0\0" ++ typed (codes "\u{1b}[A"))) (begun false) ≡ codes "\u{1b}P\u{1b}[96~"
+a_pause_behind_its_first_bytes = refl
+
+pub pauses_around_a_string : heard (codes "i\0\0" ++ (typed (codes "\u{1b}]a\u{7}") ++ (codes "i\0\0" ++ typed (codes "b")))) (begun false) ≡ codes "b"
+pauses_around_a_string = refl
+
+-- it ends a sequence that stands open
+pub a_string_behind_broken : heard_typed (codes "\u{1b}[1;5\u{1b}]a\u{7}A") ≡ codes "\u{1b}[1;5\u{18}A"
+a_string_behind_broken = refl
+
+pub a_string_behind_an_escape : heard_typed (codes "\u{1b}\u{1b}]a\u{7}A") ≡ codes "\u{1b}\u{18}A"
+a_string_behind_an_escape = refl
+
+-- in a paste it is text
+pub a_string_in_a_paste : heard_typed (codes "\u{1b}[200~\u{1b}]a\u{7}b\u{1b}[201~") ≡ codes "\u{1b}[90~]ab\u{1b}[91~"
+a_string_in_a_paste = refl
+
+-- ---- notices
 
 -- a notice waits for the end of a paste
 pub a_notice_comes_behind_a_paste : heard (codes "b\0\u{7}\u{1b}[200~an\0\u{1}\u{3}b\0\u{7}b\u{1b}[201~") (begun false)
