@@ -197,7 +197,7 @@ fn push_end<'a>(
     width: u16,
 ) -> Result<(), OutOfMemory>
     ensures glyphs { OnOk result (map glyph_of glyphs.new.items
-        ≡ with_end width (map glyph_of glyphs.old.items) end.name.entry.now end.is_rtl) }
+        ≡ with_end width (map glyph_of glyphs.old.items) end.entry.name.now end.entry.is_rtl) }
     ensures drawn { All IsWellDrawn glyphs.old.items → OnOk result (All IsWellDrawn glyphs.new.items) }
 {
     let Some(room) = room_behind(glyphs, width) else {
@@ -206,12 +206,12 @@ fn push_end<'a>(
     if room < BLANKS_BEFORE_END + DIRECTION_COLUMNS {
         return Ok(());
     }
-    let name = &end.name.glyphs;
     let free = room - DIRECTION_COLUMNS;
-    match room_behind(name, free) {
-        Some(left) if left > BLANKS_BEFORE_END && !name.is_empty() => {
+    let name: &'a DrawnName = end.name;
+    match room_behind(&name.glyphs, free) {
+        Some(left) if left > BLANKS_BEFORE_END && !name.glyphs.is_empty() => {
             push_blanks(glyphs, left - 1)?;
-            push_glyphs(glyphs, name)?;
+            push_glyphs(glyphs, &name.glyphs)?;
             push_blanks(glyphs, 1)?;
         }
         _ => push_blanks(glyphs, free)?,
@@ -227,7 +227,7 @@ fn push_some_end<'a>(
     width: u16,
 ) -> Result<(), OutOfMemory>
     ensures glyphs { OnOk result (map glyph_of glyphs.new.items
-        ≡ with_some_end width (map glyph_of glyphs.old.items) (option_map (λ e. (e.name.now, e.is_rtl)) end)) }
+        ≡ with_some_end width (map glyph_of glyphs.old.items) (option_map (λ e. (e.name.now, e.is_rtl)) end.entry)) }
     ensures drawn { All IsWellDrawn glyphs.old.items → OnOk result (All IsWellDrawn glyphs.new.items) }
 {
     match end {
@@ -285,7 +285,7 @@ impl<D: BidiData + Drop> Document<D> {
     pub fn draw_text(&self, text: &str, end: Option<RowEnd<'_>>) -> Result<Grid, OutOfMemory>
         requires printable { are_ascii_printable text.now ≡ true }
         ensures row { IfOk result (λ row. row.columns ≡ glyph_row self.now.document.w
-            (with_some_end self.now.document.w (letter_glyphs text.now) (option_map (λ e. (e.name.now, e.is_rtl)) end))) }
+            (with_some_end self.now.document.w (letter_glyphs text.now) (option_map (λ e. (e.name.now, e.is_rtl)) end.entry))) }
         ensures filled { IfOk result (λ row. length row.columns ≡ self.now.document.w) }
         ensures one { IfOk result (λ row. row.height ≡ 1) }
         ensures wide { IfOk result (λ row. row.width ≡ self.now.document.w) }
@@ -313,7 +313,7 @@ impl<D: BidiData + Drop> Document<D> {
         ensures row { IfOk result (λ r. r.row.columns ≡ glyph_row self.now.document.w (with_some_end self.now.document.w
             (letter_glyphs text.now ++ glyphs_or (line_glyphs (D.data self.now.tables) line.now)
                 (input_line (D.data self.now.tables) self.now.document.w (length text.now) line.now place))
-            (option_map (λ e. (e.name.now, e.is_rtl)) end))) }
+            (option_map (λ e. (e.name.now, e.is_rtl)) end.entry))) }
         ensures column { IfOk result (λ r. r.column
             ≡ column_shown (input_line (D.data self.now.tables) self.now.document.w (length text.now) line.now place)) }
         ensures inside { IfOk result (λ r. IfSome r.column (λ c. (1 ≤ c) × (c ≤ self.now.document.w))) }
