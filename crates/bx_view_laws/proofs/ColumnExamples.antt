@@ -4,7 +4,7 @@ use Rattle.std.specs.Prelude.{codes}
 use Rattle.unicode_segmentation.proofs.Computing.{unicode_segmentation}
 use Rattle.unicode_width.proofs.Computing.{unicode_width}
 use Rattle.bx_ucd.specs.SmallTables.{small}
-use Rattle.bx_view.specs.declared.moves.Goal.TheVariants.{Column, Start, End}
+use Rattle.bx_view.specs.declared.moves.Goal.TheVariants.{Column}
 use Rattle.bx_view.specs.declared.moves.Move.TheVariants.{Rows, RowsIn}
 use Rattle.bx_view.specs.declared.moves.Vertical.TheVariants.{Up, Down}
 use Rattle.bx_view.specs.Moves.{rows_away, row_end, vertical}

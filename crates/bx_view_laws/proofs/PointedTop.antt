@@ -16,7 +16,7 @@ use Rattle.bx_view_laws.specs.Pointed.{TopStays}
 use Rattle.bx_view_laws.proofs.PointedUnits.{falls-in-own}
 
 -- what is there has the property
-of-some : (P : ℕ → Type 0) (o : Option ℕ) (other : ℕ) → MatchOption o ⊥ P → P (unwrap_or o other)
+pub of-some : (P : ℕ → Type 0) (o : Option ℕ) (other : ℕ) → MatchOption o ⊥ P → P (unwrap_or o other)
 of-some P None other h = absurd h
 of-some P (Some p) other h = h
 

@@ -1,5 +1,5 @@
 -- The laws of keys that move the view, and of places that are moved by a goal.
-use Rattle.std.proofs.Common.{◌≡◌, ◌≢◌, ◌⊎◌, inl, inr, ℕ, zero, suc, ◌+◌, ◌-◌, ◌/◌, ◌<◌, ◌≤◌, ◌==◌, nat_le, nat_lt, nat_eq, ◌&&◌, min, max, Bool, true, false}
+use Rattle.std.proofs.Common.{◌≡◌, ◌⊎◌, inl, inr, ℕ, suc, ◌+◌, ◌/◌, ◌<◌, ◌≤◌, ◌==◌, min, Bool, true, false}
 use Rattle.std.proofs.Common.{List, [], ◌∷◌, length, map, Option, Some, None, unwrap_or, IsUtf8, refl, sym, ap, subst, ◌∙◌, arith, ⊎_elim, eq-eqb, ne_eqb}
 use Rattle.std.specs.Prelude.{Contains, MatchOption}
 use Rattle.std.proofs.lemmas.Bool.{cases_lt, eqb-true}
@@ -13,17 +13,16 @@ use Rattle.bx_view.specs.declared.moves.Goal.TheVariants.{Column, Start, End}
 use Rattle.bx_view.specs.declared.moves.Vertical.{Vertical}
 use Rattle.bx_view.specs.declared.moves.Vertical.TheVariants.{Up, Down}
 use Rattle.bx_view.specs.Laws.{IsShownFrom}
-use Rattle.bx_view.specs.Moves.{entry_in, goal_in, goal_of, row_away, row_end, row_home, rows_away, to_row}
+use Rattle.bx_view.specs.Moves.{entry_in, goal_in, goal_of, row_away, row_home, rows_away, to_row}
 use Rattle.bx_view.specs.TextRows.{IsPlace, TextRow, cell_of, first, places_of, row_at, row_of, text_rows}
-use Rattle.bx_view.specs.Top.{centred, filled, is_among, last_top, middle_top, nearest_row, to_shown, top_away, top_row_away}
+use Rattle.bx_view.specs.Top.{centred, filled, is_among, last_top, middle_top, nearest_row, pointed_at, top_away, top_row_away}
 use Rattle.bx_view.proofs.Entered.{row-entered}
 use Rattle.bx_view.proofs.KeptPlaces.{contains-moved}
 use Rattle.bx_view.proofs.LeastMove.{falls-own}
 use Rattle.bx_view.proofs.Nearest.{falls-within}
-use Rattle.bx_view.proofs.OneSlot.{in-own-row}
 use Rattle.bx_view.proofs.Rising.{rank-few}
 use Rattle.bx_view.proofs.Walking.{rows-rise, text-rank}
-use Rattle.bx_view_laws.specs.Pointed.{IsFullEnd}
+use Rattle.bx_view_laws.specs.Pointed.{IsFullEnd, picture_row}
 use Rattle.bx_view_laws.specs.Views.{Centres, Fills, GoalsAreEnds, IsFull, KeepsShown, PlacesReturn, ViewsReturn}
 use Rattle.bx_view_laws.proofs.PointedTop.{of-some}
 use Rattle.bx_view_laws.proofs.PointedUnits.{falls-in-own, own-cells-stay, row-pointed}
@@ -62,6 +61,10 @@ some-of (Some o) P h = (o, refl, h)
 same-or : (x : Option ℕ) (P : ℕ → Type 0) (a b : ℕ) → MatchOption x ⊥ P → unwrap_or x a ≡ unwrap_or x b
 same-or None P a b h = absurd h
 same-or (Some o) P a b h = refl
+
+first-or : (x y z : ℕ) (B : Type 0) → x ≡ y → (y ≡ z) ⊎ B → (x ≡ z) ⊎ B
+first-or x y z B e (inl f) = inl (e ∙ f)
+first-or x y z B e (inr b) = inr b
 
 same-or-not : (n m : ℕ) → (n ≡ m) ⊎ (n ≡ m → ⊥)
 same-or-not n m = ⊎_elim (λ less. inr (λ e. omega (arith, e, less)))
@@ -162,7 +165,7 @@ module _ (ucd : Data) (base : Base) (w : ℕ) (side : 1 ≤ w) (text : List ℕ)
   goal-row k Start place within = falls k within
   goal-row k End place within =
       let r = row_at rows k in
-      let there = (some-of (entry_in w r 1) (Contains (places_of r)) (row-entered ucd base w side text utf8 k within 1)).2.1 in
+      let there = (some-of (entry_in w r 1) (Contains (places_of r)) (row-entered ucd base w side text utf8 k within 1)).2 in
       (falls-in-own ucd base w side text utf8 k (r.start + last_of r.row) within
       (contains-moved r.start (offsets_of r.row) (last_of r.row)
       (last-contained (offsets_of r.row) (omega (arith, there.1, length-map (offsets_of r.row) (λ o. r.start + o)))))).0
@@ -209,8 +212,12 @@ module _ (ucd : Data) (base : Base) (w : ℕ) (side : 1 ≤ w) (text : List ℕ)
       let low : k ≤ k = omega arith in
       let same = same-or (entry_in w (row_at rows k) cell) (Contains (places_of (row_at rows k))) other 0
       (row-entered ucd base w side text utf8 k within cell) in
-      let pointed = ap (λ m. unwrap_or (entry_in w (row_at rows m) cell) 0) (row-pointed ucd base w side text utf8 place k low within) in
-      ⊎_elim (λ stays. inl (same ∙ sym pointed ∙ stays)) (λ full. inr full) (own-cells-stay ucd base w side text utf8 place place is low)
+      let there : ℕ = pointed_at w rows place (picture_row rows place k) cell in
+      let pointed : there ≡ unwrap_or (entry_in w (row_at rows k) cell) 0 =
+      ap (λ m. unwrap_or (entry_in w (row_at rows m) cell) 0) (row-pointed ucd base w side text utf8 place k low within) in
+      let entered : unwrap_or (entry_in w (row_at rows k) cell) other ≡ there = same ∙ sym pointed in
+      ⊎_elim {B = IsFullEnd w (row_at rows k) place} (λ (stays : there ≡ place). inl (entered ∙ stays)) (λ full. inr full)
+      (own-cells-stay ucd base w side text utf8 place place is low)
 
   module _ (place : ℕ) (is : IsPlace rows place) where
     abbrev goal : Goal
@@ -226,8 +233,8 @@ module _ (ucd : Data) (base : Base) (w : ℕ) (side : 1 ≤ w) (text : List ℕ)
         (λ apart.
         let there = to_row w rows goal place k in
         let other : own ≡ row_of rows there → ⊥ = λ e. apart (sym (e ∙ to-row-is goal place k within)) in
-        ⊎_elim (λ back. inl (to-there goal there own other ∙ back)) (λ full. inr full)
-        (comes-back place is (row_home rows place == place) refl there)) (same-or-not k own)
+        first-or (to_row w rows goal there own) (unwrap_or (goal_in w (row_at rows own) goal) there) place (IsFullEnd w (row_at rows own) place)
+        (to-there goal there own other) (comes-back place is (row_home rows place == place) refl there)) (same-or-not k own)
 
     down-and-up : (n : ℕ) → own + n < length rows → (rows_away w rows Up n goal (rows_away w rows Down n goal place) ≡ place) ⊎ IsFullEnd w (row_at rows own) place
     down-and-up n h =
@@ -236,7 +243,8 @@ module _ (ucd : Data) (base : Base) (w : ℕ) (side : 1 ≤ w) (text : List ℕ)
         let within = away-within Down n place in
         let back : row_away (length rows) Up n (row_of rows (to_row w rows goal place k)) ≡ own =
         ap (λ m. row_away (length rows) Up n m) (to-row-is goal place k within ∙ there) ∙ omega arith in
-        ⊎_elim (λ e. inl (ap (to_row w rows goal (to_row w rows goal place k)) back ∙ e)) (λ full. inr full) (there-and-back k within)
+        first-or (rows_away w rows Up n goal (to_row w rows goal place k)) (to_row w rows goal (to_row w rows goal place k) own) place
+        (IsFullEnd w (row_at rows own) place) (ap (to_row w rows goal (to_row w rows goal place k)) back) (there-and-back k within)
 
     up-and-down : (n : ℕ) → n ≤ own → (rows_away w rows Down n goal (rows_away w rows Up n goal place) ≡ place) ⊎ IsFullEnd w (row_at rows own) place
     up-and-down n h =
@@ -245,7 +253,8 @@ module _ (ucd : Data) (base : Base) (w : ℕ) (side : 1 ≤ w) (text : List ℕ)
         let top = own-within place in
         let back : row_away (length rows) Down n (row_of rows (to_row w rows goal place k)) ≡ own =
         ap (λ m. row_away (length rows) Down n m) (to-row-is goal place k within) ∙ omega (arith, h, top) in
-        ⊎_elim (λ e. inl (ap (to_row w rows goal (to_row w rows goal place k)) back ∙ e)) (λ full. inr full) (there-and-back k within)
+        first-or (rows_away w rows Down n goal (to_row w rows goal place k)) (to_row w rows goal (to_row w rows goal place k) own) place
+        (IsFullEnd w (row_at rows own) place) (ap (to_row w rows goal (to_row w rows goal place k)) back) (there-and-back k within)
 
   pub places-return : PlacesReturn w rows
   places-return = record { down = λ n place is h. down-and-up place is n h; up = λ n place is h. up-and-down place is n h }

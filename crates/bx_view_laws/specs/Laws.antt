@@ -1,6 +1,6 @@
 -- Parts of the laws of places: what holds in every window, and the greatest place at or before an offset. `ucd` is what any
 -- tables say.
-use Rattle.std.specs.Prelude.{◌≡◌, ℕ, ◌-◌, ◌≤◌, true, List, IsUtf8}
+use Rattle.std.specs.Prelude.{◌≡◌, ℕ, ◌≤◌, true, List, IsUtf8}
 use Rattle.bx_ucd.specs.Data.{Data}
 use Rattle.bx_common.specs.Characters.{is_side}
 use Rattle.bx_common.specs.declared.base.Base.{Base}

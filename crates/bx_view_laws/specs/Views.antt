@@ -1,6 +1,6 @@
 -- Keys that move the view themselves, in a window with `t` rows for text, of `w` columns: places in the middle, pages and scrolling. Rows
 -- of the text are numbered from 0.
-use Rattle.std.specs.Prelude.{◌≡◌, ◌⊎◌, ℕ, ◌+◌, ◌-◌, ◌/◌, ◌<◌, ◌≤◌, min, List, length}
+use Rattle.std.specs.Prelude.{◌≡◌, ◌⊎◌, ℕ, ◌+◌, ◌/◌, ◌<◌, ◌≤◌, min, List, length}
 use Rattle.bx_view_laws.specs.Pointed.{IsFullEnd}
 use Rattle.bx_view.specs.declared.moves.Goal.{Goal}
 use Rattle.bx_view.specs.declared.moves.Goal.TheVariants.{Start, End}

@@ -7,6 +7,7 @@ ghost use Rattle.bx_view.specs.Laws.{FindsLeastPlace, HasCells, LeadBack, LeadTo
 ghost use Rattle.bx_view_laws.specs.Entry.{RowsGoOn};
 ghost use Rattle.bx_view_laws.specs.Laws.{InEachWindow, IsGreatestPlace};
 ghost use Rattle.bx_view_laws.specs.Pointed.{OwnCellsStay, TopStays, UnitsAreTaken};
+ghost use Rattle.bx_view_laws.specs.Views.{Centres, Fills, GoalsAreEnds, KeepsShown, PlacesReturn, ViewsReturn};
 ghost use Rattle.bx_view.specs.Moves.{place_at, place_from, step_logical};
 ghost use Rattle.bx_view.specs.Places.{text_places, IsTextPlace};
 ghost use Rattle.bx_view.specs.TextRows.{places};
@@ -83,4 +84,36 @@ pub fn pointing_at_own_cell_stays()
 /// Pointing at a row that is shown leaves the top, so pointing twice at one cell is pointing once.
 pub fn pointing_twice_is_once()
     ensures { InEachWindow (λ ucd text w rows. (t : ℕ) → 0 < t → TopStays w rows t) }
+{}
+
+/// A key that may lead far moves the view so that the place's row is visible, and only if it was not. Then half of the window is above
+/// that row, or all that the text has there, and no row is left blank that could show text.
+pub fn far_places_are_centred()
+    ensures { InEachWindow (λ ucd text w rows. (t : ℕ) → 0 < t → Centres rows t) }
+{}
+
+/// Filling the window moves the view up, by the fewest rows that leave none blank that could show text.
+pub fn filling_is_least()
+    ensures { InEachWindow (λ ucd text w rows. (t : ℕ) → 0 < t → Fills rows t) }
+{}
+
+/// The view goes down a page, or some rows, and back up to where it was, if the text has as many rows; so it goes up and back down.
+pub fn views_return()
+    ensures { InEachWindow (λ ucd text w rows. (t : ℕ) → 0 < t → ViewsReturn rows t) }
+{}
+
+/// A place goes down some rows and back up to itself, by the goal that it keeps, if the text has as many rows and no unit has its cell; so
+/// it goes up and back down.
+pub fn places_return()
+    ensures { InEachWindow (λ ucd text w rows. PlacesReturn w rows) }
+{}
+
+/// A move from a row's start leads to another row's start, whichever edge that is at, and a move from a row's end to another row's end.
+pub fn goals_are_ends()
+    ensures { InEachWindow (λ ucd text w rows. GoalsAreEnds w rows) }
+{}
+
+/// When the view is scrolled, the place stays if its row is still visible; if not, it goes to a row that is.
+pub fn scrolling_keeps_places_visible()
+    ensures { InEachWindow (λ ucd text w rows. (t : ℕ) → 0 < t → KeepsShown w rows t) }
 {}
