@@ -2,7 +2,8 @@ pub mod PutOn
 pub mod CopiedRows
 pub mod RowGlyphs
 pub mod Fitting
-pub mod QueryGlyphs
+pub mod RoomBehind
+pub mod CutLines
 pub mod TurnedWhere
 pub mod RegionColumns
 pub mod TurnedSlots
@@ -24,7 +25,6 @@ pub mod SeparatorsRead
 pub mod UnitLevels
 pub mod PlaceLevels
 mod Examples
-pub mod TypedGlyphs
 pub mod TurnedExamples
 mod PlaceExamples
 mod LevelExamples

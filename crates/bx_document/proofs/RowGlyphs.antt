@@ -102,10 +102,10 @@ pub record IsNext (w : ℕ) (ds : List Drawn) (i : ℕ) (d : Drawn) : Type 0 whe
   pub one : is_one_glyph (cow_str_bytes d.text) ≡ true
   pub width : run_width (cow_str_bytes d.text) ≡ d.columns
 
-more-columns : (ds : List Drawn) (i : ℕ) (d : Drawn) → i < length ds → get_or ds i d ≡ d → columns_in (take (i + 1) ds) ≡ columns_in (take i ds) + d.columns
+pub more-columns : (ds : List Drawn) (i : ℕ) (d : Drawn) → i < length ds → get_or ds i d ≡ d → columns_in (take (i + 1) ds) ≡ columns_in (take i ds) + d.columns
 more-columns ds i d inside is = sum_by_more (λ x. x.columns) ds i d inside ∙ ap (λ (x : Drawn). columns_in (take i ds) + x.columns) is
 
-fit-columns : (ds : List Drawn) (i : ℕ) (d : Drawn) → i < length ds → get_or ds i d ≡ d → columns_in (take i ds) + d.columns ≤ columns_in ds
+pub fit-columns : (ds : List Drawn) (i : ℕ) (d : Drawn) → i < length ds → get_or ds i d ≡ d → columns_in (take i ds) + d.columns ≤ columns_in ds
 fit-columns ds i d inside is =
     let le = sum_by_more_le (λ x. x.columns) ds i d inside in
     let one : (get_or ds i d).columns ≡ d.columns = ap (λ (x : Drawn). x.columns) is in

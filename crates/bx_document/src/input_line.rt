@@ -60,7 +60,7 @@ fn cell_in_first_row<D: BidiData>(
         else None)) }
 {
     let at = view.row_at(text_ref, place)?;
-    if at.paragraph > 0 || at.row > 0 {
+    if let Some(_) = view.row_before(text_ref, at)? {
         return Ok(None);
     }
     let cell = view.cell_of(text_ref, place)?;

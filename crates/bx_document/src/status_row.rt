@@ -1,5 +1,5 @@
 //! Draws the status row: a text, an input line behind it, and at the row's end a file's name and the direction of a paragraph.
-ghost use Rattle.std.specs.Prelude.{◌≡◌, ◌≤◌, ◌++◌, true, All, IfOk, IfSome, OnOk, drop, length, map, option_map, replicate, string_bytes, sum_by, take};
+ghost use Rattle.std.specs.Prelude.{◌≡◌, ◌+◌, ◌≤◌, ◌++◌, nat_le, true, if◌then◌else◌, All, IfOk, IfSome, None, OnOk, Some, drop, length, map, option_map, replicate, string_bytes, sum_by, take};
 ghost use Rattle.bx_common.specs.Characters.{are_ascii_printable, is_side};
 ghost use Rattle.bx_rows.specs.RowPicture.{blank, letter_glyphs};
 ghost use Rattle.bx_rows.specs.Shown.{glyph_of};
@@ -91,6 +91,20 @@ struct Cut {
     column: u16,
 }
 
+/// The column of a row in which a cell of an input line is, behind `before` columns; none if it is past the row's end.
+fn column_at(before: usize, cell: u16, width: u16) -> Option<u16>
+    ensures { result ≡ (if nat_le (before + cell) width then Some (before + cell) else None) }
+{
+    if before > usize::from(width) {
+        return None;
+    }
+    let before = before as u16;
+    if cell > width - before {
+        return None;
+    }
+    Some(before + cell)
+}
+
 /// Leaves out the fewest glyphs at the left by which the cursor, in their column `cell`, is in the first `width` columns of a row in
 /// which `before` columns stand before them; none if its own glyph would be left out.
 fn cut_for(glyphs: &[Drawn<'_>], before: usize, cell: u16, width: u16) -> Option<Cut>
@@ -98,15 +112,14 @@ fn cut_for(glyphs: &[Drawn<'_>], before: usize, cell: u16, width: u16) -> Option
     ensures within { IfSome result (λ c. c.left_out ≤ length glyphs.now) }
     ensures inside { IfSome result (λ c. (1 ≤ c.column) × (c.column ≤ width)) }
     ensures shown { shown_line width before (map glyph_of glyphs.now) cell
-        ≡ option_map (λ c. record { glyphs = drop c.left_out (map glyph_of glyphs.now); column = c.column }) result }
+        ≡ option_map (λ c. record { glyphs = map glyph_of (drop c.left_out glyphs.now); column = c.column }) result }
 {
-    let room = usize::from(width);
     let mut cell = cell;
     for (i, glyph) in glyphs.iter().enumerate() {
-        if before + usize::from(cell) <= room {
+        if let Some(column) = column_at(before, cell, width) {
             return Some(Cut {
                 left_out: i,
-                column: (before + usize::from(cell)) as u16,
+                column,
             });
         }
         if glyph.columns >= cell {
@@ -114,13 +127,11 @@ fn cut_for(glyphs: &[Drawn<'_>], before: usize, cell: u16, width: u16) -> Option
         }
         cell -= glyph.columns;
     }
-    if before + usize::from(cell) <= room {
-        return Some(Cut {
-            left_out: glyphs.len(),
-            column: (before + usize::from(cell)) as u16,
-        });
-    }
-    None
+    let column = column_at(before, cell, width)?;
+    Some(Cut {
+        left_out: glyphs.len(),
+        column,
+    })
 }
 
 /// A glyph of a text that stays.

@@ -8,39 +8,65 @@ use Rattle.bx_text.specs.Edits.{fits}
 use Rattle.bx_ucd.specs.Data.{Data}
 use Rattle.bx_document.specs.Swapped.{behind_character, last_stop, swapped}
 use Rattle.bx_view.specs.Moves.{place_at}
+use Rattle.bx_view.specs.declared.moves.Move.{Move}
+use Rattle.bx_view.specs.declared.moves.Vertical.{Vertical}
+use Rattle.bx_editor.specs.declared.answer.Answer.{Answer}
+use Rattle.bx_editor.specs.declared.answer.Answer.TheVariants.{Letter, Erases, Moves, PutsIn, Passes, GoesBack, Next, Previous, Replaces, Scrolls, Stays, Ends}
+use Rattle.bx_editor.specs.declared.input_line.Erasure.{Erasure}
 use Rattle.bx_editor.specs.declared.search_state.SearchPurpose.{SearchPurpose}
 use Rattle.bx_editor.specs.declared.search_state.SearchPurpose.TheVariants as purposes
 use Rattle.bx_editor.specs.declared.matches.Landing.{Landing}
 use Rattle.bx_editor.specs.declared.message.Message.{Message}
 use Rattle.bx_editor.specs.declared.message.Message.TheVariants as messages
 use Rattle.bx_editor.specs.declared.search_state.SearchState.{SearchState}
-use Rattle.bx_editor.specs.declared.search_state.SearchState.TheVariants.{Off, Typed, WithBegun, WithTyped, Replacing}
+use Rattle.bx_editor.specs.declared.search_state.SearchState.TheVariants.{Off, Begun, Typed, WithBegun, WithTyped, Replacing}
+use Rattle.bx_editor.specs.Before.{Before}
 use Rattle.bx_editor.specs.Editor.{Editor, rows, with_exchange, with_place, with_typing}
-use Rattle.bx_editor.specs.Effects.{Before, Seeks, by}
-use Rattle.bx_editor.specs.Keys.{Answer, Letter, Shortens, GoesBack, Next, Previous, Replaces, Stays, Ends, after_pressing}
-use Rattle.bx_editor.specs.Keys.{answered, answered_match, answered_replacement}
-use Rattle.bx_editor.specs.Putting.{with_paste, is_paste, only_paste}
-use Rattle.bx_editor.specs.Replacing.{after_asking_replacement, after_ending, after_match_letter, after_replacement_letter, after_replacing}
-use Rattle.bx_editor.specs.Replacing.{after_replacing_all, after_showing, after_sought_end, after_sought_letter, asked_at, at_match, is_replacing}
-use Rattle.bx_editor.specs.Replacing.{match_stop, matches_on, next_match, on_from, replacement_typed, shown_at}
+use Rattle.bx_editor.specs.Effects.{Seeks, by}
+use Rattle.bx_editor.specs.InputLines.{after_taking, behind_letter, erases_nothing, is_at_end, is_no_letter, is_taken, line_lengthened, line_moved}
+use Rattle.bx_editor.specs.InputLines.{line_shortened, line_with}
+use Rattle.bx_editor.specs.Keys.{after_pressing, answered, answered_match, answered_replacement}
+use Rattle.bx_editor.specs.LinePuts.{after_line_put, typed_in_search}
+use Rattle.bx_editor.specs.LineState.{LineState}
+use Rattle.bx_editor.specs.Putting.{is_paste, only_paste}
+use Rattle.bx_editor.specs.Replacing.{after_asking_replacement, after_ending, after_erasing_replacement, after_match_letter, after_replacement_letter}
+use Rattle.bx_editor.specs.Replacing.{after_replacing, after_replacing_all, after_showing, after_sought_end, after_sought_letter, asked_at, at_match}
+use Rattle.bx_editor.specs.Replacing.{is_replacing, match_stop, matches_on, next_match, on_from, replacement_line, replacement_typed, shown_at}
 use Rattle.bx_editor.specs.Replacing.{with_matches_replaced, with_replacement}
-use Rattle.bx_editor.specs.Search.{after_letter, backward, is_no_letter, kept, landed, landing_from, lengthened, longest_query}
-use Rattle.bx_editor.specs.Search.{next_or_start, reading, search_from, shortened, sought, with_query, without_search}
+use Rattle.bx_editor.specs.RowMoves.{after_wheel}
+use Rattle.bx_editor.specs.Search.{after_erasing_query, after_letter, after_moving_in, as_typed, backward, kept, landed, landing_from, longest_query}
+use Rattle.bx_editor.specs.Search.{next_or_start, nothing_sought, query_line, reading, search_from, search_on, sought, with_query, without_search}
 
--- matches that give way, moves, the beginning of a paste, and what is told, sought and typed keep this property of editors
+-- matches that give way, moves, and what is told, sought and typed keep this property of editors
 pub record IsKeptSeeking (d : Data) (P : Editor → Type 0) : Type 0 where
   pub exchanged : (e : Editor) (start stop : ℕ) (new : List ℕ) → P e → P (with_exchange d e start stop new)
   pub told : (e : Editor) (message : Option Message) → P e → P (record e { message = message })
   pub placed : (e : Editor) (place : ℕ) → P e → P (with_place e place)
   pub typed : (e : Editor) (typing : Typing) → P e → P (with_typing e typing)
-  pub begun : (e : Editor) → P e → P (with_paste e)
-  pub sought : (e : Editor) (search_state : SearchState) (purpose : SearchPurpose) (origin : ℕ) (query other : List ℕ) (at count : ℕ) → P e
-      → P (record e { search_state = search_state; purpose = purpose; origin = origin; query = query; replacement = other; at = at; count = count })
+  pub sought : (e : Editor) (search_state : SearchState) (purpose : SearchPurpose) (origin : ℕ) (query other : List ℕ) (at count cursor : ℕ) → P e
+      → P (record e {
+        search_state = search_state;
+        purpose = purpose;
+        origin = origin;
+        query = query;
+        replacement = other;
+        at = at;
+        count = count;
+        input_cursor = cursor;
+      })
 
 -- the key ends the search
 abbrev pub is_end : Answer → Bool
 is_end Ends = true
 is_end _ = false
+
+-- while a match is shown: no key edits an input line, and these end replacing
+abbrev pub is_end_of_match : Answer → Bool
+is_end_of_match (Moves m) = true
+is_end_of_match PutsIn = true
+is_end_of_match Passes = true
+is_end_of_match Ends = true
+is_end_of_match _ = false
 
 module _ (d : Data) (P : Editor → Type 0) (keeps : IsKeptSeeking d P) where
   either : (b : Bool) (p q : Editor) → P p → P q → P (if b then p else q)
@@ -49,99 +75,137 @@ module _ (d : Data) (P : Editor → Type 0) (keeps : IsKeptSeeking d P) where
 
   -- in this state of the search
   seeking : (e : Editor) (search_state : SearchState) → P e → P (record e { search_state = search_state })
-  seeking e search_state h = keeps.sought e search_state e.purpose e.origin e.query e.replacement e.at e.count h
+  seeking e search_state h = keeps.sought e search_state e.purpose e.origin e.query e.replacement e.at e.count e.input_cursor h
 
   landing : (e : Editor) (l : Landing) → P e → P (landed e l)
   landing e l h = let place = unwrap_or l.place e.place in keeps.told (with_place e place) l.message (keeps.placed e place h)
 
-  queried : (e : Editor) (query : List ℕ) → P e → P (with_query e query)
-  queried e query h = keeps.sought e Typed e.purpose e.origin query e.replacement e.at e.count h
+  queried : (e : Editor) (l : LineState) → P e → P (with_query e l)
+  queried e l h = keeps.sought e Typed e.purpose e.origin l.text e.replacement e.at e.count l.cursor h
 
   searching : (e : Editor) (x : ℕ) → P e → P (search_from d x e)
   searching e x h = landing e (landing_from d x e) h
+
+  searching-on : (e : Editor) (grows : Bool) → P e → P (search_on d grows e)
+  searching-on e grows h =
+      let back = with_place e e.origin in
+      either grows (search_from d e.place e) (search_from d e.origin back) (searching e e.place h)
+      (searching back e.origin (keeps.placed e e.origin h))
+
+  -- a character is typed or pasted in an input line, with its effect
+  pub taking : (typing : Typing) (c : ℕ) (e new : Editor) → P e → P new → P (after_taking d typing c e new)
+  taking typing c e new h k =
+      keeps.typed (if is_taken d typing c then new else e) (behind_letter d typing c) (either (is_taken d typing c) new e k h)
+
+  -- the cursor moves in an input line
+  pub moving-in : (e : Editor) (text : List ℕ) (m : Move) → P e → P (after_moving_in d e text m)
+  moving-in e text m h =
+      keeps.sought e (as_typed e.search_state) e.purpose e.origin e.query e.replacement e.at e.count (line_moved d m (line_with text e.input_cursor)) h
 
   -- ---- while the query is asked for
 
   letter : (e : Editor) (c : ℕ) → P e → P (after_letter d e c)
   letter e c h =
-      let query = lengthened longest_query (kept e.search_state e.query) c in
-      let longer = with_query e query in
-      either (is_no_letter d c) e (search_from d e.place longer) h (searching longer e.place (queried e query h))
+      let l = kept e.search_state (query_line e) in
+      let longer = with_query e (line_lengthened d longest_query l c) in
+      either (is_no_letter d c) e (search_on d (is_at_end l) longer) h
+      (searching-on longer (is_at_end l) (queried e (line_lengthened d longest_query l c) h))
+
+  erasing-query : (e : Editor) (how : Erasure) → P e → P (after_erasing_query d e how)
+  erasing-query e how h =
+      let l = line_shortened d how (query_line e) in
+      either (erases_nothing d how (query_line e)) e (search_on d false (with_query e l)) h (searching-on (with_query e l) false (queried e l h))
 
   asked : (e : Editor) (place : Option ℕ) → P e → P (asked_at place e)
   asked e None h = seeking e Typed h
-  asked e (Some place) h = keeps.sought e WithBegun e.purpose e.origin e.query e.replacement e.at 0 h
+  asked e (Some place) h = keeps.sought e WithBegun e.purpose e.origin e.query e.replacement e.at 0 (length e.replacement) h
 
   asking : (e : Editor) → P e → P (after_asking_replacement d e)
   asking e h =
       let aimed : Editor = record e { purpose = purposes.Replace } in
       let l = landing_from d aimed.place aimed in
-      let k : P aimed = keeps.sought e e.search_state purposes.Replace e.origin e.query e.replacement e.at e.count h in
-      either (length (sought d aimed) == 0) aimed (asked_at l.place (landed aimed l)) k
+      let k : P aimed = keeps.sought e e.search_state purposes.Replace e.origin e.query e.replacement e.at e.count e.input_cursor h in
+      either (length (sought d aimed) == 0) (landed aimed (nothing_sought aimed.query)) (asked_at l.place (landed aimed l))
+      (landing aimed (nothing_sought aimed.query) k)
       (asked (landed aimed l) l.place (landing aimed l k))
 
-  sought-end : (typing : Typing) (e : Editor) → P e → P (after_sought_end d typing e)
-  sought-end typing e h =
-      let left = without_search e in
-      let k = seeking e Off h in
-      either (is_replacing e.purpose) (if is_paste typing then e else after_asking_replacement d e) (if is_paste typing then with_paste left else left)
-      (either (is_paste typing) e (after_asking_replacement d e) h (asking e h))
-      (either (is_paste typing) (with_paste left) left (keeps.begun left k) k)
+  sought-end : (e : Editor) → P e → P (after_sought_end d e)
+  sought-end e h = either (is_replacing e.purpose) (after_asking_replacement d e) (without_search e) (asking e h) (seeking e Off h)
 
-  sought-letter : (typing : Typing) (e : Editor) (c : ℕ) → P e → P (after_sought_letter d typing e c)
-  sought-letter typing e c h =
-      either (c == 0xA) (after_sought_end d typing e) (after_letter d e c) (sought-end typing e h) (letter e c h)
+  sought-letter : (e : Editor) (c : ℕ) → P e → P (after_sought_letter d e c)
+  sought-letter e c h = either (c == 0xA) (after_sought_end d e) (after_letter d e c) (sought-end e h) (letter e c h)
 
-  -- `pressed`: a key that ends the search
+  -- `pressed`: a key that ends the search; `wheeled`: the wheel; `put`: the held text
   pub query-keeps : (fault : Option StoreFault) (was : Before) (e : Editor) (key : Key) (answer : Answer) → P e
-      → (is_end answer ≡ true → P (after_pressing d fault was e key)) → P (answered d fault was e key answer)
-  query-keeps fault was e key (Letter c) h pressed =
-      keeps.typed (after_sought_letter d was.typing e c) (only_paste was.typing) (sought-letter was.typing e c h)
-  query-keeps fault was e key Shortens h pressed =
-      let query = shortened (kept e.search_state e.query) in
-      searching (with_place (with_query e query) e.origin) e.origin (keeps.placed (with_query e query) e.origin (queried e query h))
-  query-keeps fault was e key GoesBack h pressed = keeps.placed (without_search e) e.origin (seeking e Off h)
-  query-keeps fault was e key Next h pressed = searching (record e { search_state = Typed }) (next_or_start d e) (seeking e Typed h)
-  query-keeps fault was e key Previous h pressed =
-      landing (record e { search_state = Typed }) (backward d (reading e.purpose) (rows d e) e.content.text e.place (sought d e))
+      → (is_end answer ≡ true → P (after_pressing d fault was (without_search e) key)) → ((way : Vertical) → P (after_wheel d was e way))
+      → P (after_line_put d e) → P (answered d fault was e key answer)
+  query-keeps fault was e key (Letter c) h pressed wheeled put = taking was.typing c e (after_sought_letter d e c) h (sought-letter e c h)
+  query-keeps fault was e key (Erases how) h pressed wheeled put = erasing-query e how h
+  query-keeps fault was e key (Moves m) h pressed wheeled put = moving-in e e.query m h
+  query-keeps fault was e key PutsIn h pressed wheeled put = put
+  query-keeps fault was e key Passes h pressed wheeled put = h
+  query-keeps fault was e key GoesBack h pressed wheeled put = keeps.placed (without_search e) e.origin (seeking e Off h)
+  query-keeps fault was e key Next h pressed wheeled put = searching (record e { search_state = Typed }) (next_or_start d e) (seeking e Typed h)
+  query-keeps fault was e key Previous h pressed wheeled put =
+      landing (record e { search_state = Typed }) (backward d (reading e.purpose) (rows d e) e.content.text e.place e.query (sought d e))
       (seeking e Typed h)
-  query-keeps fault was e key Replaces h pressed = asking e h
-  query-keeps fault was e key Stays h pressed = keeps.typed e was.typing h
-  query-keeps fault was e key Ends h pressed = seeking (after_pressing d fault was e key) Off (pressed refl)
+  query-keeps fault was e key Replaces h pressed wheeled put = asking e h
+  query-keeps fault was e key (Scrolls way) h pressed wheeled put = wheeled way
+  query-keeps fault was e key Stays h pressed wheeled put = keeps.typed e was.typing h
+  query-keeps fault was e key Ends h pressed wheeled put = pressed refl
 
   -- ---- while the replacement is asked for
 
-  replacement-set : (e : Editor) (other : List ℕ) → P e → P (with_replacement e other)
-  replacement-set e other h = keeps.sought e WithTyped e.purpose e.origin e.query other e.at e.count h
+  replacement-set : (e : Editor) (l : LineState) → P e → P (with_replacement e l)
+  replacement-set e l h = keeps.sought e WithTyped e.purpose e.origin e.query l.text e.at e.count l.cursor h
 
   shown : (e : Editor) (at : Option ℕ) → P e → P (shown_at e at)
   shown e None h = h
-  shown e (Some at) h = keeps.sought e Replacing e.purpose e.origin e.query e.replacement at e.count h
+  shown e (Some at) h = keeps.sought e Replacing e.purpose e.origin e.query e.replacement at e.count e.input_cursor h
 
   showing : (e : Editor) → P e → P (after_showing d e)
   showing e h = shown e (next_match d e e.place) h
 
-  replacement-letter : (typing : Typing) (e : Editor) (c : ℕ) → P e → P (after_replacement_letter d typing e c)
-  replacement-letter typing e c h =
-      let longer = with_replacement e (lengthened longest_query (kept e.search_state e.replacement) c) in
-      either (c == 0xA) (if is_paste typing then e else after_showing d e) (replacement_typed d e c)
-      (either (is_paste typing) e (after_showing d e) h (showing e h))
-      (either (is_no_letter d c) e longer h (replacement-set e (lengthened longest_query (kept e.search_state e.replacement) c) h))
+  replacement-typed : (e : Editor) (c : ℕ) → P e → P (replacement_typed d e c)
+  replacement-typed e c h =
+      let l = line_lengthened d longest_query (kept e.search_state (replacement_line e)) c in
+      either (is_no_letter d c) e (with_replacement e l) h (replacement-set e l h)
 
-  -- `begun`: another search begins; `pressed`: a key that ends the search
+  replacement-letter : (e : Editor) (c : ℕ) → P e → P (after_replacement_letter d e c)
+  replacement-letter e c h = either (c == 0xA) (after_showing d e) (replacement_typed d e c) (showing e h) (replacement-typed e c h)
+
+  erasing-replacement : (e : Editor) (how : Erasure) → P e → P (after_erasing_replacement d e how)
+  erasing-replacement e how h =
+      let l = line_shortened d how (replacement_line e) in
+      either (erases_nothing d how (replacement_line e)) e (with_replacement e l) h (replacement-set e l h)
+
+  -- `begun`: another search begins
   pub replacement-keeps : (fault : Option StoreFault) (was : Before) (e : Editor) (key : Key) (answer : Answer) → P e
       → P (by d fault was (without_search e) (Seeks purposes.Find))
-      → (is_end answer ≡ true → P (after_pressing d fault was (without_search e) key))
-      → P (answered_replacement d fault was e key answer)
-  replacement-keeps fault was e key (Letter c) h begun pressed =
-      keeps.typed (after_replacement_letter d was.typing e c) (only_paste was.typing) (replacement-letter was.typing e c h)
-  replacement-keeps fault was e key Shortens h begun pressed = replacement-set e (shortened (kept e.search_state e.replacement)) h
-  replacement-keeps fault was e key GoesBack h begun pressed = keeps.placed (without_search e) e.origin (seeking e Off h)
-  replacement-keeps fault was e key Next h begun pressed = begun
-  replacement-keeps fault was e key Previous h begun pressed = begun
-  replacement-keeps fault was e key Replaces h begun pressed = showing e h
-  replacement-keeps fault was e key Stays h begun pressed = keeps.typed e was.typing h
-  replacement-keeps fault was e key Ends h begun pressed = pressed refl
+      → (is_end answer ≡ true → P (after_pressing d fault was (without_search e) key)) → ((way : Vertical) → P (after_wheel d was e way))
+      → P (after_line_put d e) → P (answered_replacement d fault was e key answer)
+  replacement-keeps fault was e key (Letter c) h begun pressed wheeled put =
+      taking was.typing c e (after_replacement_letter d e c) h (replacement-letter e c h)
+  replacement-keeps fault was e key (Erases how) h begun pressed wheeled put = erasing-replacement e how h
+  replacement-keeps fault was e key (Moves m) h begun pressed wheeled put = moving-in e e.replacement m h
+  replacement-keeps fault was e key PutsIn h begun pressed wheeled put = put
+  replacement-keeps fault was e key Passes h begun pressed wheeled put = h
+  replacement-keeps fault was e key GoesBack h begun pressed wheeled put = keeps.placed (without_search e) e.origin (seeking e Off h)
+  replacement-keeps fault was e key Next h begun pressed wheeled put = begun
+  replacement-keeps fault was e key Previous h begun pressed wheeled put = begun
+  replacement-keeps fault was e key Replaces h begun pressed wheeled put = showing e h
+  replacement-keeps fault was e key (Scrolls way) h begun pressed wheeled put = wheeled way
+  replacement-keeps fault was e key Stays h begun pressed wheeled put = keeps.typed e was.typing h
+  replacement-keeps fault was e key Ends h begun pressed wheeled put = pressed refl
+
+  -- a character is typed in the input line of a search
+  pub typed-in-search : (search_state : SearchState) (e : Editor) (c : ℕ) → P e → P (typed_in_search d search_state e c)
+  typed-in-search Off e c h = h
+  typed-in-search Begun e c h = letter e c h
+  typed-in-search Typed e c h = letter e c h
+  typed-in-search WithBegun e c h = replacement-typed e c h
+  typed-in-search WithTyped e c h = replacement-typed e c h
+  typed-in-search Replacing e c h = h
 
   -- ---- while a match is shown
 
@@ -155,7 +219,7 @@ module _ (d : Data) (P : Editor → Type 0) (keeps : IsKeptSeeking d P) where
   there e None h = ending e h
   there e (Some at) h =
       keeps.placed (record e { search_state = Replacing; at = at }) (place_at (rows d e) at)
-      (keeps.sought e Replacing e.purpose e.origin e.query e.replacement at e.count h)
+      (keeps.sought e Replacing e.purpose e.origin e.query e.replacement at e.count e.input_cursor h)
 
   onward : (e : Editor) (x : ℕ) → P e → P (on_from d x e)
   onward e x h = there e (next_match d e x) h
@@ -163,7 +227,7 @@ module _ (d : Data) (P : Editor → Type 0) (keeps : IsKeptSeeking d P) where
   replaced : (e : Editor) (stop : ℕ) (new : List ℕ) (n : ℕ) → P e → P (with_matches_replaced d e stop new n)
   replaced e stop new n h =
       let x = with_exchange d e e.at stop new in
-      keeps.sought x x.search_state x.purpose 0 x.query x.replacement x.at (e.count + n) (keeps.exchanged e e.at stop new h)
+      keeps.sought x x.search_state x.purpose 0 x.query x.replacement x.at (e.count + n) x.input_cursor (keeps.exchanged e e.at stop new h)
 
   replacing : (e : Editor) → P e → P (after_replacing d e)
   replacing e h =
@@ -187,14 +251,18 @@ module _ (d : Data) (P : Editor → Type 0) (keeps : IsKeptSeeking d P) where
 
   pub match-keeps : (fault : Option StoreFault) (was : Before) (e : Editor) (key : Key) (answer : Answer) → P e
       → P (by d fault was (without_search e) (Seeks purposes.Find))
-      → (is_end answer ≡ true → P (after_pressing d fault was (without_search e) key))
+      → (is_end_of_match answer ≡ true → P (after_pressing d fault was (without_search e) key)) → ((way : Vertical) → P (after_wheel d was e way))
       → P (answered_match d fault was e key answer)
-  match-keeps fault was e key (Letter c) h begun pressed =
+  match-keeps fault was e key (Letter c) h begun pressed wheeled =
       keeps.typed (after_match_letter d was.typing e c) (only_paste was.typing) (match-letter was.typing e c h)
-  match-keeps fault was e key Shortens h begun pressed = h
-  match-keeps fault was e key GoesBack h begun pressed = ending e h
-  match-keeps fault was e key Next h begun pressed = onward e (behind_character e.content.text e.at) h
-  match-keeps fault was e key Previous h begun pressed = begun
-  match-keeps fault was e key Replaces h begun pressed = replacing-all e h
-  match-keeps fault was e key Stays h begun pressed = keeps.typed e was.typing h
-  match-keeps fault was e key Ends h begun pressed = pressed refl
+  match-keeps fault was e key (Erases how) h begun pressed wheeled = h
+  match-keeps fault was e key (Moves m) h begun pressed wheeled = pressed refl
+  match-keeps fault was e key PutsIn h begun pressed wheeled = pressed refl
+  match-keeps fault was e key Passes h begun pressed wheeled = pressed refl
+  match-keeps fault was e key GoesBack h begun pressed wheeled = ending e h
+  match-keeps fault was e key Next h begun pressed wheeled = onward e (behind_character e.content.text e.at) h
+  match-keeps fault was e key Previous h begun pressed wheeled = begun
+  match-keeps fault was e key Replaces h begun pressed wheeled = replacing-all e h
+  match-keeps fault was e key (Scrolls way) h begun pressed wheeled = wheeled way
+  match-keeps fault was e key Stays h begun pressed wheeled = keeps.typed e was.typing h
+  match-keeps fault was e key Ends h begun pressed wheeled = pressed refl

@@ -55,10 +55,14 @@ can_save e = not (e.read_only || is_nameless e)
 
 -- ---- what a save leaves
 
--- where another program changed the file, the question is whether to overwrite it
+-- another program changed the file
+abbrev pub is_changed : Option SaveCause → Bool
+is_changed (Some Changed) = true
+is_changed cause = false
+
+-- where it did, the question is whether to overwrite it
 abbrev pub asked_over : Option SaveCause → Editor → Editor
-asked_over (Some Changed) e = record e { prompt = prompts.Overwrite }
-asked_over cause e = e
+asked_over cause e = if is_changed cause then record e { prompt = prompts.Overwrite } else e
 
 -- a save succeeded, or failed with this fault, whose cause is told; later saves go where one succeeded
 abbrev pub after_save : Editor → Option StoreFault → Editor
