@@ -64,6 +64,24 @@ pub or_another : (options : Options) → AreOptionsOf (given (codes "--frames" �
 unfolding clap_on_literals
 or_another options law = law.1.erase
 
+-- ---- how the text is edited
+
+pub settings_are_given : (options : Options)
+    → AreOptionsOf (given (codes "--view" ∷ codes "--indent" ∷ codes "--spaces" ∷ codes "4" ∷ codes "--name" ∷ codes "x" ∷ codes "FILE" ∷ [])) options
+    → (options.view ≡ true) × (options.indent ≡ true) × (options.spaces ≡ 4) × (text_in options.name ≡ Some (codes "x"))
+unfolding clap_on_literals
+settings_are_given options law = (law.1.view, law.1.indent, law.1.spaces.1, sym law.1.name)
+
+pub without_them_there_are_none : (options : Options) → AreOptionsOf (given (codes "FILE" ∷ [])) options
+    → (options.view ≡ false) × (options.indent ≡ false) × (options.spaces ≡ 0) × (text_in options.name ≡ None)
+unfolding clap_on_literals
+without_them_there_are_none options law = (law.1.view, law.1.indent, law.1.spaces, sym law.1.name)
+
+-- an empty word says that the text has no name yet
+pub a_name_may_be_empty : (options : Options) → AreOptionsOf (given (codes "--name" ∷ [] ∷ codes "FILE" ∷ [])) options → text_in options.name ≡ Some []
+unfolding clap_on_literals
+a_name_may_be_empty options law = sym law.1.name
+
 -- ---- the window
 
 same_text : (option : Option Text) (left right : Text) → option ≡ Some left → option ≡ Some right → right ≡ left

@@ -1,5 +1,5 @@
 -- The editor's command line, as clap has it: the names, defaults and kinds of values of its options.
-use Rattle.std.specs.Prelude.{List, [], ◌∷◌, Some, true, codes}
+use Rattle.std.specs.Prelude.{List, [], ◌∷◌, Some, true, pos, codes}
 use Rattle.clap.specs.Words.{App, Rule, new_app, new_rule}
 use Rattle.clap.specs.declared.builder.value_parser.ValueParser.TheVariants as vp
 use Rattle.bx_command.specs.shared.Rules.{DirectionWords, bound, direction_rule, flag_rule, option_rule, side_rule, table_rules, with_rules}
@@ -7,6 +7,10 @@ use Rattle.bx_command.specs.shared.Rules.{DirectionWords, bound, direction_rule,
 -- the cursor's first line, a number from 1
 abbrev pub line_rule : Rule
 line_rule = record (option_rule (codes "line")) { parser = Some (vp.Unsigned 1 18446744073709551615) }
+
+-- a tab's spaces, a number from 1 to 8
+abbrev pub spaces_rule : Rule
+spaces_rule = record (option_rule (codes "spaces")) { parser = Some (vp.Signed (pos 1) (pos 8)) }
 
 -- FILE, which has no name before it
 abbrev pub file_rule : Rule
@@ -23,6 +27,10 @@ plain_rules directions =
     ∷ flag_rule (codes "unsaved")
     ∷ flag_rule (codes "frames")
     ∷ flag_rule (codes "clipboard")
+    ∷ flag_rule (codes "view")
+    ∷ flag_rule (codes "indent")
+    ∷ spaces_rule
+    ∷ option_rule (codes "name")
     ∷ direction_rule directions
     ∷ line_rule
     ∷ option_rule (codes "before")

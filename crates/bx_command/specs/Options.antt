@@ -1,8 +1,8 @@
 -- The editor's options, by the words of its command line.
-use Rattle.std.specs.Prelude.{◌≡◌, ℕ, Bool, false, List, Option, Some, None, option_map, map, codes}
+use Rattle.std.specs.Prelude.{◌≡◌, ◌≤◌, ℕ, Bool, false, List, length, Option, Some, None, IfSome, option_map, map, codes}
 use Rattle.std.specs.Char.{to_ascii_lowercase}
 use Rattle.std.specs.Borrow.{Bor}
-use Rattle.std.specs.Str.{bytes_eq}
+use Rattle.std.specs.Str.{bytes_eq, chars}
 use Rattle.std.specs.Str.Parse.{IsNumeral, digits_value, without_leading_plus}
 use Rattle.clap.specs.Words.{Row, Text, matches_of}
 use Rattle.bx_common.specs.Directions.{word_of}
@@ -20,6 +20,16 @@ abbrev pub IsLine : Option Text → Option ℕ → Type 0
 IsLine None line = line ≡ None
 IsLine (Some text) line = IsNumeral 10 (without_leading_plus text) × (line ≡ Some (digits_value 10 (without_leading_plus text)))
 
+-- a tab's spaces, from 1 to 8, by the value of --spaces, a decimal number, maybe after a plus; 0 without --spaces
+abbrev pub AreSpaces : Option Text → ℕ → Type 0
+AreSpaces None spaces = spaces ≡ 0
+AreSpaces (Some text) spaces =
+    IsNumeral 10 (without_leading_plus text) × (spaces ≡ digits_value 10 (without_leading_plus text)) × (1 ≤ spaces) × (spaces ≤ 8)
+
+-- at most 255 characters
+abbrev pub IsShortName : Option Text → Type 0
+IsShortName name = IfSome name (λ text. length (chars text) ≤ 255)
+
 -- the value of --erase is DELETE, 7F, in any case
 abbrev pub is_delete : Option Text → Bool
 is_delete None = false
@@ -36,6 +46,11 @@ pub record AreOptionsIn (found : List Row) (options : Options) : Type 0 where
   pub check : options.check ≡ is_given found (codes "check")
   pub unsaved : options.unsaved ≡ is_given found (codes "unsaved")
   pub clipboard : options.clipboard ≡ is_given found (codes "clipboard")
+  pub view : options.view ≡ is_given found (codes "view")
+  pub indent : options.indent ≡ is_given found (codes "indent")
+  pub spaces : AreSpaces (value_in found (codes "spaces")) options.spaces
+  pub name : value_in found (codes "name") ≡ text_in options.name
+  pub short_name : IsShortName (text_in options.name)
   pub journal : value_in found (codes "journal") ≡ text_in options.journal
   pub replay : value_in found (codes "replay") ≡ text_in options.replay
   pub to : value_in found (codes "to") ≡ text_in options.to

@@ -1,11 +1,11 @@
 //! The options of the editor's command line, and how they are parsed.
 
-ghost use Rattle.std.specs.Prelude.{◌≡◌, IfOk, IfSome, codes, map};
+ghost use Rattle.std.specs.Prelude.{◌≡◌, IfOk, IfSome, chars, codes, length, map};
 ghost use Rattle.clap.specs.Words.{app_of, rule_of};
 ghost use Rattle.bx_command.specs.shared.Arguments.{rows_in, value_in};
 ghost use Rattle.bx_command.specs.shared.Rules.{DirectionWords, bound, flag_rule, option_rule, with_rules};
-ghost use Rattle.bx_command.specs.Command.{bare_app, bound_rules, editor_app, file_rule, line_rule, plain_rules};
-ghost use Rattle.bx_command.specs.Options.{AreOptionsIn, AreOptionsOf, IsLine, is_delete, text_in};
+ghost use Rattle.bx_command.specs.Command.{bare_app, bound_rules, editor_app, file_rule, line_rule, plain_rules, spaces_rule};
+ghost use Rattle.bx_command.specs.Options.{AreOptionsIn, AreOptionsOf, AreSpaces, IsLine, IsShortName, is_delete, text_in};
 
 use crate::parsed::Options;
 use crate::shared::{
@@ -31,7 +31,9 @@ fn line<'a>(alloc: Global) -> Arg<'a>
 }
 
 /// The option for a tab's spaces.
-fn spaces<'a>(alloc: Global) -> Arg<'a> {
+fn spaces<'a>(alloc: Global) -> Arg<'a>
+    ensures { rule_of result ≡ spaces_rule }
+{
     option(alloc, "spaces", "N").value_parser(value_parser!(u16).range(1..=8))
 }
 
@@ -168,7 +170,9 @@ fn line_of(matches: &ArgMatches<'_>) -> Option<Option<u64>>
 }
 
 /// A tab's spaces; 0 if none are asked for. None if the value is out of range.
-fn spaces_of(matches: &ArgMatches<'_>) -> Option<u8> {
+fn spaces_of(matches: &ArgMatches<'_>) -> Option<u8>
+    ensures { IfSome result (AreSpaces (value_in (rows_in matches.now) (codes "spaces"))) }
+{
     match value_of(matches, "spaces") {
         Some(text) => match text.parse::<u8>() {
             Ok(n) if 1 <= n && n <= 8 => Some(n),
@@ -181,12 +185,25 @@ fn spaces_of(matches: &ArgMatches<'_>) -> Option<u8> {
 /// The most characters of a file's name.
 const LONGEST_NAME: usize = 255;
 
+/// The number of characters of a text.
+fn char_count(text: &str) -> usize
+    ensures { result ≡ length (chars text.now) }
+{
+    text.chars().count()
+}
+
 /// The file's name, maybe none; None if it is too long.
-fn name_of<'a>(matches: &ArgMatches<'a>) -> Option<Option<&'a str>> {
-    match value_of(matches, "name") {
-        Some(name) if name.chars().count() > LONGEST_NAME => None,
-        name => Some(name),
+fn name_of<'a>(matches: &ArgMatches<'a>) -> Option<Option<&'a str>>
+    ensures value { IfSome result (λ name. value_in (rows_in matches.now) (codes "name") ≡ text_in name) }
+    ensures short { IfSome result (λ name. IsShortName (text_in name)) }
+{
+    let Some(name) = value_of(matches, "name") else {
+        return Some(None);
+    };
+    if char_count(name) > LONGEST_NAME {
+        return None;
     }
+    Some(Some(name))
 }
 
 /// The options that clap matched; None if a value is missing or out of range.

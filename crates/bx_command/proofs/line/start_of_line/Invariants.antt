@@ -1,4 +1,4 @@
-use Rattle.std.proofs.Common.{◌≡◌, ℕ, ◌<◌, length, All}
+use Rattle.std.proofs.Common.{◌≡◌, ◌<◌, length, All}
 use Rattle.bx_command.specs.Lines.{start_of_line}
 use Rattle.memchr.specs.Find.{Passes, is_byte}
 use Rattle.bx_command.proofs.Starts.{last_start}
