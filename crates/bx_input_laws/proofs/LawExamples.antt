@@ -1,5 +1,5 @@
 -- A row that follows from each law alone, and from the contract of a run.
-use Rattle.std.proofs.Common.{◌≡◌, ◌≢◌, ℕ, ◌≤◌, Bool, true, false, not, ◌&&◌, nat_eq, List, [], ◌∷◌, ◌++◌, length}
+use Rattle.std.proofs.Common.{◌≡◌, ◌≢◌, ℕ, ◌≤◌, inr, Bool, true, false, not, ◌&&◌, nat_eq, List, [], ◌∷◌, ◌++◌, length}
 use Rattle.std.proofs.Common.{refl, ap, sym, ◌∙◌, subst, arith}
 use Rattle.std.specs.Prelude.{codes, unwrap_or}
 use Rattle.std.specs.List.{AllByRecursion, list_all}
@@ -17,6 +17,9 @@ use Rattle.bx_input.specs.Filter as filter
 use Rattle.bx_input.specs.Filter.{State, Outside, Within, Step, step_to, start, at_end}
 use Rattle.bx_input.specs.Mouse.{opens_report}
 use Rattle.bx_input.specs.Sizes.{opens_size}
+use Rattle.bx_input.specs.Translating.{after_all_typed}
+use Rattle.bx_input.specs.declared.pause.Pause.TheVariants as pauses
+use Rattle.bx_input_laws.specs.Strings.{StringsGiveNothing, idle_translating}
 use Rattle.bx_input_laws.specs.Laws.{AddsReportKeys, AddsSizeKeys, HasNoReport, HasNoSize, is_report, is_size_sequence}
 use Rattle.bx_input_laws.specs.Laws.{ComesInPieces, WaitsForFifteen, waiting_in, BecomesRow, HasNone, OthersPass, PastesText, IsText, PastesAreClean}
 use Rattle.bx_input_laws.specs.Laws.{GrowsSixTimes, GrowsByTenThirds}
@@ -263,3 +266,9 @@ unfolding chars encode
 of_pastes_insert law =
     let is = law [] [] false (codes "a\r\n\u{13}b") refl (no_sequence (exact paste_end ∷ []) (codes "a\r\n\u{13}b") refl refl) in
     is.0 ∙ ap (λ keys. PasteStart ∷ (keys ++ PasteEnd ∷ [])) (is.2 (0x61 ∷ 0x0A ∷ 0x62 ∷ [], (refl, refl)))
+
+-- a terminal's answer, where the session is within a key
+pub of_strings_give_nothing : StringsGiveNothing
+    → (after_all_typed (codes "\u{1b}]11;rgb:ffff/0000/0000\u{1b}\\") (idle_translating false true pauses.No (codes "\u{1b}[1;5"))).output ≡ 0x18 ∷ []
+of_strings_give_nothing law =
+    law false true pauses.No (codes "\u{1b}[1;5") (codes "11;rgb:ffff/0000/0000") (codes "\u{1b}\\") 0x5D refl (record { short = omega arith; no_end = refl }) (inr refl)

@@ -1,5 +1,6 @@
 pub mod Anew
 pub mod Clean
+pub mod ControlStrings
 pub mod Decoding
 pub mod Firsts
 pub mod Following

@@ -7,6 +7,7 @@ ghost use Rattle.bx_input_laws.specs.Hearing.{AreHeardInOrder};
 ghost use Rattle.bx_input_laws.specs.Laws.{AddsKeys, AddsReportKeys, AddsSizeKeys, BecomesRow, ComesInPieces, GrowsByTenThirds, GrowsByThreeFourths, GrowsSixTimes, HasKeys, OthersPass};
 ghost use Rattle.bx_input_laws.specs.Laws.{PastesAreClean, WaitsForFifteen};
 ghost use Rattle.bx_input_laws.specs.Laws.{PastesInsert, PastesKeepCharacters, PastesText};
+ghost use Rattle.bx_input_laws.specs.Strings.{StringsGiveNothing};
 ghost use Rattle.bx_input.specs.Table.{rows};
 
 /// However input is cut, its output is the same.
@@ -79,6 +80,11 @@ pub fn sizes_add_keys()
 /// in order, if that is UTF-8.
 pub fn pastes_insert()
     ensures { (erases_by_delete : Bool) → PastesInsert erases_by_delete }
+{}
+
+/// A control string outside a paste, such as a terminal's answer, gives the session nothing.
+pub fn strings_give_nothing()
+    ensures { StringsGiveNothing }
 {}
 
 /// The session reads the frames of the host in their order, however the pipe cuts them.
