@@ -1,7 +1,8 @@
 -- Worked examples of frames: what the session reads for the bytes of the pipe.
-use Rattle.std.proofs.Common.{◌≡◌, ℕ, ◌/◌, ◌%◌, false, List, [], ◌∷◌, ◌++◌, length, map, refl}
+use Rattle.std.proofs.Common.{◌≡◌, ℕ, ◌/◌, ◌%◌, true, false, replicate, List, [], ◌∷◌, ◌++◌, length, map, refl}
 use Rattle.std.specs.Prelude.{codes}
 use Rattle.std.specs.Fmt.{digits}
+use Rattle.bx_input.specs.Strings.{is_short_string}
 use Rattle.bx_input.specs.Translating.{begun, notice_bytes, size_bytes}
 use Rattle.bx_input.specs.Heard.{heard}
 use Rattle.bx_keys.specs.Keys.{decoding}
@@ -78,6 +79,13 @@ a_string_behind_an_escape = refl
 -- in a paste it is text
 pub a_string_in_a_paste : heard_typed (codes "\u{1b}[200~\u{1b}]a\u{7}b\u{1b}[201~") ≡ codes "\u{1b}[90~]ab\u{1b}[91~"
 a_string_in_a_paste = refl
+
+-- 4,096 bytes and no more, behind the first two
+pub the_longest_string : is_short_string (0x5D ∷ replicate 4096 0x61) ≡ true
+the_longest_string = refl
+
+pub a_longer_one : is_short_string (0x5D ∷ replicate 4097 0x61) ≡ false
+a_longer_one = refl
 
 -- ---- notices
 
