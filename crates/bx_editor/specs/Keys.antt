@@ -1,6 +1,6 @@
 -- The effect of each key on the editor's state. `d`: Unicode's data; `fault`: why a Save failed, None if it succeeded; `was`: what
 -- the key before left; `e`: the editor, from which `after_user` clears that.
-use Rattle.std.specs.Prelude.{ℕ, Bool, true, false, ◌&&◌, ◌||◌, not, if◌then◌else◌, is_some, List, length, Option, Some, None}
+use Rattle.std.specs.Prelude.{ℕ, ◌==◌, Bool, true, false, ◌&&◌, ◌||◌, not, if◌then◌else◌, is_some, List, length, Option, Some, None}
 use Rattle.bx_keys.specs.declared.key.Key.{Key}
 use Rattle.bx_keys.specs.declared.key.Key.TheVariants.{Insert, Erase, Delete, Back, Forward, Up, Down, Right, Left, RowHome, RowEnd, PageUp, PageDown}
 use Rattle.bx_keys.specs.declared.key.Key.TheVariants.{Save, Quit, Undo, Redo, Repaint, Direction, Size, Mark, Copy, Cut, Put}
@@ -33,7 +33,7 @@ use Rattle.bx_editor.specs.InputLines.{after_taking}
 use Rattle.bx_editor.specs.LinePuts.{after_line_put}
 use Rattle.bx_editor.specs.Saving.{Saving, after_deciding, can_save, confirms, own_saving, saving_over, saving_under}
 use Rattle.bx_editor.specs.Editor.{Editor, cleared, rows, text_height, with_notice, with_size, with_typing}
-use Rattle.bx_editor.specs.Effects.{Effect, Types, BeginsLine, Puts, Removes, RemovesWord, Steps, StepsGroup, Goes, GoesByRows, GoesToRowEnd, Clicks}
+use Rattle.bx_editor.specs.Effects.{Effect, Types, BeginsLine, Puts, Removes, RemovesWord, Steps, StepsGroup, Goes, GoesByRows, GoesToRowEnd, Clicks, SeeksPrevious, AsksFile, AsksOverwrite}
 use Rattle.bx_editor.specs.Effects.{Drags, Wheels, Marks, Selects, SelectsAll, Unmarks, Copies, Cuts, Seeks, SeeksNext, Saves, Quits, Turns, Helps}
 use Rattle.bx_editor.specs.Effects.{AsksLine, AsksName, Tells, Refuses, Rests, by}
 use Rattle.bx_editor.specs.Before.{Before, before}

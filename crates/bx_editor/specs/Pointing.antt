@@ -74,6 +74,10 @@ after_point d e row column =
     then pressed_at d e row column (pointed_place d e row column) (press_extent e.clicks row column)
     else record (unselected e) { clicks = None; pressed = None }
 
+abbrev pub is_unit : Extent → Bool
+is_unit Unit = true
+is_unit _ = false
+
 -- a drag with one unit pressed has not led elsewhere yet
 abbrev pub rests_on_unit : Editor → Pressed → ℕ × ℕ → Bool
 rests_on_unit e pressed part = is_unit pressed.extent && (part.0 == pressed.start) && (pressed.start == e.place)

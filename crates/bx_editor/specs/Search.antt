@@ -1,6 +1,6 @@
 -- The keys of a search. Offsets and places count bytes of the text. `d` is Unicode's data, `e` the editor, `x` an offset, `c` a
 -- character.
-use Rattle.std.specs.Prelude.{ℕ, ◌==◌, nat_lt, List, [], ◌∷◌, length, find, chars}
+use Rattle.std.specs.Prelude.{ℕ, ◌==◌, nat_lt, Bool, true, false, List, [], ◌∷◌, length, find, chars}
 use Rattle.std.specs.Prelude.{Option, Some, None, unwrap_or, if◌then◌else◌}
 use Rattle.bx_ucd.specs.Data.{Data}
 use Rattle.bx_find.specs.declared.letters.Reading.{Reading}

@@ -3,7 +3,7 @@ ghost use Rattle.std.specs.Prelude.{◌≡◌, IfOk, IfSome, OnErr, OnOk};
 ghost use Rattle.bx_view.specs.Places.{IsTextPlace};
 ghost use Rattle.bx_editor.specs.Clicks.{IsPressed};
 ghost use Rattle.bx_editor.specs.Editor.{cleared};
-ghost use Rattle.bx_editor.specs.Pointing.{after_drag, after_point, dragged_to, first_press, further, part_at, pointed_place, press_extent, pressed_at, rests_on_unit, selecting_part, with_word};
+ghost use Rattle.bx_editor.specs.Pointing.{after_drag, after_point, dragged_to, first_press, further, part_at, pointed_place, press_extent, pressed_at, pressing, rests_on_unit, selecting_part, with_word};
 
 use crate::clicks::{Clicks, Extent, Pressed};
 use crate::cursor::Soft;
