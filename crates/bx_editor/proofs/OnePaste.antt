@@ -10,26 +10,44 @@ use Rattle.bx_text.specs.Edits.{fits}
 use Rattle.bx_ucd.specs.Data.{Data}
 use Rattle.bx_editor.specs.declared.questions.answers.Prompt.TheVariants as prompts
 use Rattle.bx_editor.specs.declared.undo_groups.typing.Typing.TheVariants as typings
-use Rattle.bx_editor.specs.declared.message.Message.TheVariants.{Pasting, TextFull}
+use Rattle.bx_editor.specs.declared.message.Message.TheVariants.{Pasting, TextFull, ViewOnly}
 use Rattle.bx_editor.specs.declared.search_state.SearchState.TheVariants as search_states
 use Rattle.bx_editor.specs.declared.cursor.Soft.{Soft}
 use Rattle.bx_editor.specs.declared.cursor.Soft.TheVariants.{Off, Fresh, Old}
-use Rattle.bx_editor.specs.Editor.{Editor, place_after, with_insertion, with_typing}
+use Rattle.bx_view.specs.declared.moves.Goal.{Goal}
+use Rattle.bx_editor.specs.Editor.{Editor, place_after, unpressed, with_insertion, with_typing}
 use Rattle.bx_editor.specs.Functions.{after_keys}
 use Rattle.bx_editor.specs.PasteLaws.{HasAll, IsOneEdit, IsPaste, PasteIsOneEdit, brought, place_between, written}
 use Rattle.bx_editor.specs.Putting.{after_paste_end, after_paste_start, longer, paste_begun, pasted_bytes, pastes_crlf, has_room, put_in}
-use Rattle.bx_editor.specs.Putting.{with_selection_replaced, yielding}
+use Rattle.bx_editor.specs.Putting.{is_free, with_selection_replaced, yielding}
 use Rattle.bx_editor.specs.Region.{is_empty, region, aged, is_selection, is_soft}
 use Rattle.bx_editor.proofs.TwoEdits.{runs-of-two}
 
 -- the editor while a paste is under way
-abbrev in_paste : Editor → List ℕ → Bool → Option ℕ → Soft → Editor
-in_paste e list again goal soft =
-    record e { pasted = Some list; typing = typings.Paste; message = Some Pasting; quit_before = again; goal = goal; soft = soft }
+abbrev in_paste : Editor → List ℕ → Bool → Option Goal → Soft → Editor
+in_paste e list again goal soft = record e {
+  pasted = Some list;
+  typing = typings.Paste;
+  message = Some Pasting;
+  quit_before = again;
+  goal = goal;
+  soft = soft;
+  clicks = None;
+  pressed = None;
+}
 
 -- the same once it is over, and before its list is put in
-abbrev over : Editor → Bool → Option ℕ → Soft → Editor
-over e again goal soft = record e { pasted = None; typing = typings.Off; message = None; quit_before = again; goal = goal; soft = soft }
+abbrev over : Editor → Bool → Option Goal → Soft → Editor
+over e again goal soft = record e {
+  pasted = None;
+  typing = typings.Off;
+  message = None;
+  quit_before = again;
+  goal = goal;
+  soft = soft;
+  clicks = None;
+  pressed = None;
+}
 
 aged-soft : (soft : Soft) → is_soft (aged soft) ≡ is_soft soft
 aged-soft Off = refl
@@ -96,23 +114,23 @@ has-all d e cs = has-all-by d e cs (brought d e.content.text [] cs) (brings d e.
 
 module _ (d : Data) (e : Editor) where
   letters : (P : List ℕ → Editor → Type 0)
-      → ((list : List ℕ) (again : Bool) (goal : Option ℕ) (soft : Soft) → is_soft soft ≡ is_soft e.soft
+      → ((list : List ℕ) (again : Bool) (goal : Option Goal) (soft : Soft) → is_soft soft ≡ is_soft e.soft
       → P list (after_paste_end d (in_paste e list again goal soft)))
-      → (cs list : List ℕ) (again : Bool) (goal : Option ℕ) (soft : Soft) → is_soft soft ≡ is_soft e.soft
+      → (cs list : List ℕ) (again : Bool) (goal : Option Goal) (soft : Soft) → is_soft soft ≡ is_soft e.soft
       → P (brought d e.content.text list cs) (after_keys d None (in_paste e list again goal soft) (map Insert cs ++ PasteEnd ∷ []))
   letters P end [] list again goal soft same = end list again goal soft same
   letters P end (c ∷ cs) list again goal soft same =
       letters P end cs (longer (pastes_crlf d e.content.text c) list c) false None (aged soft) (aged-soft soft ∙ same)
 
-  module _ (cs list : List ℕ) (again : Bool) (goal : Option ℕ) (soft : Soft) (same : is_soft soft ≡ is_soft e.soft) (all : HasAll d e cs list) where
+  module _ (cs list : List ℕ) (again : Bool) (goal : Option Goal) (soft : Soft) (same : is_soft soft ≡ is_soft e.soft) (all : HasAll d e cs list) where
     abbrev was : Editor
     was = over e again goal soft
 
     -- what is put in, by whether there is room, and whether a selection gives way
     abbrev shaped : Bool → Bool → Editor
     shaped room selected =
-        with_typing (if room then (if selected then with_selection_replaced d was list else with_insertion d was list false)
-        else record was { message = Some TextFull }) typings.Off
+        unpressed (with_typing (if room then (if selected then with_selection_replaced d was list else with_insertion d was list false)
+        else record was { message = Some TextFull }) typings.Off)
 
     same-selection : is_selection was ≡ is_selection e
     same-selection = ap (λ s. s && not (is_empty (region e))) same
@@ -164,12 +182,12 @@ module _ (d : Data) (e : Editor) where
 
     some-put : list ≢ [] → IsPaste d e cs list (after_paste_end d (in_paste e list again goal soft))
     some-put some =
-        subst (λ (b : Bool). IsPaste d e cs list (with_typing (if b then was else put_in d was list false) typings.Off)) (sym (none-long list some))
+        subst (λ (b : Bool). IsPaste d e cs list (unpressed (with_typing (if b then was else put_in d was list false) typings.Off))) (sym (none-long list some))
         (subst (λ (r : Bool). IsPaste d e cs list (shaped r (is_selection was))) (sym same-room)
         (subst (λ (s : Bool). IsPaste d e cs list (shaped (has_room e list) s)) (sym same-selection)
         (put (has_room e list) (is_selection e) some refl refl)))
 
-  ended : (cs list : List ℕ) (again : Bool) (goal : Option ℕ) (soft : Soft) → is_soft soft ≡ is_soft e.soft → HasAll d e cs list
+  ended : (cs list : List ℕ) (again : Bool) (goal : Option Goal) (soft : Soft) → is_soft soft ≡ is_soft e.soft → HasAll d e cs list
       → IsPaste d e cs list (after_paste_end d (in_paste e list again goal soft))
   ended cs [] again goal soft same all = record {
     all = all;
@@ -180,15 +198,17 @@ module _ (d : Data) (e : Editor) where
   }
   ended cs (b ∷ bs) again goal soft same all = some-put cs (b ∷ bs) again goal soft same all (λ none. cc none)
 
-begun : (e : Editor) → e.prompt ≡ prompts.Off → e.search_state ≡ search_states.Off → e.pasted ≡ None
+begun : (e : Editor) → e.prompt ≡ prompts.Off → e.search_state ≡ search_states.Off → e.pasted ≡ None → e.read_only ≡ false
     → after_paste_start e ≡ in_paste e [] e.quit_before e.goal e.soft
-begun e unasked off none =
-    ap (λ a. with_typing (paste_begun a e.search_state e.pasted e) typings.Paste) unasked
-    ∙ ap (λ s. with_typing (paste_begun prompts.Off s e.pasted e) typings.Paste) off
-    ∙ ap (λ p. with_typing (paste_begun prompts.Off search_states.Off p e) typings.Paste) none
+begun e unasked off none edited =
+    let refused : Editor = unpressed (record e { message = Some ViewOnly }) in
+    ap (λ b. if b && is_free e.prompt e.search_state e.pasted then refused else unpressed (with_typing (paste_begun e.prompt e.search_state e.pasted e) typings.Paste)) edited
+    ∙ ap (λ a. unpressed (with_typing (paste_begun a e.search_state e.pasted e) typings.Paste)) unasked
+    ∙ ap (λ s. unpressed (with_typing (paste_begun prompts.Off s e.pasted e) typings.Paste)) off
+    ∙ ap (λ p. unpressed (with_typing (paste_begun prompts.Off search_states.Off p e) typings.Paste)) none
 
 pub paste-is-one-edit : PasteIsOneEdit
-paste-is-one-edit d e cs unasked off none =
+paste-is-one-edit d e cs unasked off none edited =
     subst (λ (x : Editor). IsPaste d e cs (brought d e.content.text [] cs) (after_keys d None x (map Insert cs ++ PasteEnd ∷ [])))
-    (sym (begun e unasked off none))
+    (sym (begun e unasked off none edited))
     (letters d e (λ list new. HasAll d e cs list → IsPaste d e cs list new) (ended d e cs) cs [] e.quit_before e.goal e.soft refl (has-all d e cs))

@@ -6,7 +6,7 @@ use Rattle.bx_editor.specs.Editor.{Editor, rows_of}
 use Rattle.bx_editor.specs.Keys.{after_key}
 use Rattle.bx_editor.specs.Search.{reading, sought}
 use Rattle.bx_keys.specs.declared.key.Key.{Key}
-use Rattle.bx_keys.specs.declared.key.Key.TheVariants.{Size, Notice, PasteStart, PasteEnd}
+use Rattle.bx_keys.specs.declared.key.Key.TheVariants.{Fill, Size, Notice, PasteStart, PasteEnd}
 use Rattle.bx_keys.specs.declared.key.Key.TheVariants as keys
 use Rattle.bx_grid.specs.Picture.{is_size}
 use Rattle.bx_paragraph.specs.declared.moves.Visual.TheVariants as visual
@@ -46,6 +46,7 @@ is_size_key _ = false
 abbrev pub is_told_key : Key → Bool
 is_told_key (Size height width) = true
 is_told_key (Notice notice) = true
+is_told_key Fill = true
 is_told_key PasteStart = true
 is_told_key PasteEnd = true
 is_told_key _ = false

@@ -1,5 +1,5 @@
 -- Laws of a paste, and of what goes out to a clipboard. `d` is Unicode's data, `e` the editor before, `new` the editor after.
-use Rattle.std.specs.Prelude.{◌≡◌, ◌≢◌, ℕ, ◌+◌, ◌<◌, ◌≤◌, ◌⊎◌, true, false, List, [], ◌∷◌, ◌++◌, length, map, Option, Some, None, if◌then◌else◌}
+use Rattle.std.specs.Prelude.{◌≡◌, ◌≢◌, ℕ, ◌+◌, ◌<◌, ◌≤◌, ◌⊎◌, ◌&&◌, not, Bool, true, false, List, [], ◌∷◌, ◌++◌, length, map, Option, Some, None, if◌then◌else◌}
 use Rattle.bx_keys.specs.declared.key.Key.{Key}
 use Rattle.bx_keys.specs.declared.key.Key.TheVariants.{Copy, Cut, Insert, PasteEnd, PasteStart}
 use Rattle.bx_editor.specs.undo_groups.Groups.{edited}
@@ -9,7 +9,9 @@ use Rattle.bx_text.specs.Changes.{exchanged}
 use Rattle.bx_ucd.specs.Data.{Data}
 use Rattle.bx_editor.specs.declared.questions.answers.Prompt.TheVariants as prompts
 use Rattle.bx_editor.specs.declared.message.Message.TheVariants.{TextFull, TooLongForClipboard}
-use Rattle.bx_editor.specs.declared.search_state.SearchState.TheVariants.{Off}
+use Rattle.bx_editor.specs.declared.questions.answers.Prompt.{Prompt}
+use Rattle.bx_editor.specs.declared.search_state.SearchState.{SearchState}
+use Rattle.bx_editor.specs.declared.search_state.SearchState.TheVariants.{Off, Replacing}
 use Rattle.bx_editor.specs.Region.{clip_of, bytes_in, is_empty, largest_clip, region, taken, is_selection}
 use Rattle.bx_editor.specs.Editor.{Editor, place_after}
 use Rattle.bx_editor.specs.Keys.{after_key, needs_no_painting}
@@ -65,10 +67,10 @@ pub record IsPaste (d : Data) (e : Editor) (cs list : List ℕ) (new : Editor) :
   pub empty : list ≡ [] → StaysAsText e new
   pub over : new.pasted ≡ None
 
--- outside a search and a question a paste is one edit of all that it brings, or nothing where the text has no room for that
+-- outside a search and a question, where the text is not only looked at, a paste is one edit of all that it brings, or nothing where the text has no room for that
 abbrev pub PasteIsOneEdit : Type 0
 PasteIsOneEdit =
-    (d : Data) (e : Editor) (cs : List ℕ) → e.prompt ≡ prompts.Off → e.search_state ≡ Off → e.pasted ≡ None
+    (d : Data) (e : Editor) (cs : List ℕ) → e.prompt ≡ prompts.Off → e.search_state ≡ Off → e.pasted ≡ None → e.read_only ≡ false
     → IsPaste d e cs (brought d e.content.text [] cs) (after_paste d e cs)
 
 -- two editors have the same picture, from any row on
@@ -95,11 +97,23 @@ pub record SendsHeld (e : Editor) (part : ℕ × ℕ) (key : Key) (new : Editor)
       → (clip_of new key ≡ None) × (new.message ≡ Some TooLongForClipboard)
   pub nothing : is_empty part ≡ true → SendsNothing e key new
 
+-- where nothing is asked and sought, while a match is shown, and while a character's name is asked for: there Cut does its work
+abbrev pub cuts_in : Prompt → SearchState → Bool
+cuts_in prompts.Off Off = true
+cuts_in prompts.Off Replacing = true
+cuts_in prompts.Name search_state = true
+cuts_in _ _ = false
+
+-- it does, and the text is not only looked at
+abbrev pub can_cut : Editor → Bool
+can_cut e = cuts_in e.prompt e.search_state && not e.read_only
+
 -- what Copy and Cut send where no paste is under way: Copy gives up a search or a question and then sends nothing
 pub record SendsCopies (d : Data) (e by_copy by_cut : Editor) : Type 0 where
   pub copy : e.prompt ≡ prompts.Off → e.search_state ≡ Off → SendsHeld e (taken d e) Copy by_copy
   pub given_up : (e.prompt ≢ prompts.Off) ⊎ (e.search_state ≢ Off) → SendsNothing e Copy by_copy
-  pub cut : SendsHeld e (taken d e) Cut by_cut
+  pub cut : can_cut e ≡ true → SendsHeld e (taken d e) Cut by_cut
+  pub uncut : can_cut e ≡ false → SendsNothing e Cut by_cut
 
 -- with a clipboard Copy and Cut, which first end a paste, send what they take; nothing else is sent
 pub record SendsCopiesAlone (d : Data) (fault : Option StoreFault) (e : Editor) : Type 0 where

@@ -47,11 +47,20 @@ abbrev pub with_word : Editor → ℕ × ℕ → Editor
 with_word e part = if is_empty part then record e { mark = None; soft = Off; place = part.0 } else selecting_part e part.0 part.1
 
 -- a first press goes to a place; with a fresh selection it selects up to there, and is no press that another one follows
+abbrev pub pressing_with : Data → Editor → ℕ → ℕ → ℕ → Soft → Editor
+pressing_with d e row column place Fresh = record e {
+  place = place;
+  clicks = None;
+  pressed = Some (pressing (unwrap_or e.mark place, unwrap_or e.mark place) Unit);
+}
+pressing_with d e row column place _ = record (unselected e) {
+  place = place;
+  clicks = Some (clicking row column Unit);
+  pressed = Some (pressing (part_at d e Unit place) Unit);
+}
+
 abbrev pub first_press : Data → Editor → ℕ → ℕ → ℕ → Editor
-first_press d e row column place = elim e.soft [
-  | Fresh ↦ record e { place = place; clicks = None; pressed = Some (pressing (unwrap_or e.mark place, unwrap_or e.mark place) Unit) }
-  | _ ↦ record (unselected e) { place = place; clicks = Some (clicking row column Unit); pressed = Some (pressing (part_at d e Unit place) Unit) }
-]
+first_press d e row column place = pressing_with d e row column place e.soft
 
 -- a press at a cell, at which this place is: a second one takes a word, a third one a paragraph
 abbrev pub pressed_at : Data → Editor → ℕ → ℕ → ℕ → Extent → Editor

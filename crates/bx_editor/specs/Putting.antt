@@ -128,10 +128,10 @@ after_put d e =
 abbrev pub with_paste : Editor → Editor
 with_paste e = record e { pasted = Some []; message = Some Pasting }
 
--- nothing is asked, and no search is on
-abbrev pub is_free : Prompt → SearchState → Bool
-is_free prompts.Off search_states.Off = true
-is_free _ _ = false
+-- nothing is asked, no search is on, and no paste is under way
+abbrev pub is_free : Prompt → SearchState → Option (List ℕ) → Bool
+is_free prompts.Off search_states.Off None = true
+is_free _ _ _ = false
 
 -- it begins unless something is asked or sought, or one is under way
 abbrev pub paste_begun : Prompt → SearchState → Option (List ℕ) → Editor → Editor
@@ -140,7 +140,7 @@ paste_begun prompt search_state pasted e = e
 
 -- nothing can be pasted into a text that is only looked at
 abbrev pub refuses_paste : Editor → Bool
-refuses_paste e = e.read_only && is_free e.prompt e.search_state
+refuses_paste e = e.read_only && is_free e.prompt e.search_state e.pasted
 
 -- the effect of PasteStart
 abbrev pub after_paste_start : Editor → Editor

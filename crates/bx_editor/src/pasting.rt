@@ -110,8 +110,8 @@ impl<D: BidiData + Drop> Editor<D> {
     fn refuses_paste(&self) -> bool
         ensures { result ≡ refuses_paste self.now.editor }
     {
-        match (self.prompt, self.cursor.search_state) {
-            (Prompt::Off, SearchState::Off) => self.read_only,
+        match (self.prompt, self.cursor.search_state, &self.pasted) {
+            (Prompt::Off, SearchState::Off, None) => self.read_only,
             _ => false,
         }
     }
