@@ -222,19 +222,19 @@ module _ (d : Data) (P : Editor → Type 0) (keeps : IsKeptPressing d P) where
       (unmarked there (placing e part.0 h))
       (selecting-keeps e part.0 part.1 h)
 
-  pressing-first : (e : Editor) (row column place : ℕ) (soft : Soft) → P e → P (pressing_with d e row column place soft)
-  pressing-first e row column place softness.Fresh h =
-      let there : Editor = record e { place = place } in
-      keeps.pointed there None (Some (pressing (unwrap_or e.mark place, unwrap_or e.mark place) extents.Unit)) (placing e place h)
-  pressing-first e row column place softness.Off h = plain-press e row column place h
-  pressing-first e row column place softness.Old h = plain-press e row column place h
-
   plain-press : (e : Editor) (row column place : ℕ) → P e
       → P (record (unselected e) { place = place; clicks = Some (clicking row column extents.Unit); pressed = Some (pressing (part_at d e extents.Unit place) extents.Unit) })
   plain-press e row column place h =
       let there : Editor = record (unselected e) { place = place } in
       keeps.pointed there (Some (clicking row column extents.Unit)) (Some (pressing (part_at d e extents.Unit place) extents.Unit))
       (placing (unselected e) place (free e h))
+
+  pressing-first : (e : Editor) (row column place : ℕ) (soft : Soft) → P e → P (pressing_with d e row column place soft)
+  pressing-first e row column place softness.Fresh h =
+      let there : Editor = record e { place = place } in
+      keeps.pointed there None (Some (pressing (unwrap_or e.mark place, unwrap_or e.mark place) extents.Unit)) (placing e place h)
+  pressing-first e row column place softness.Off h = plain-press e row column place h
+  pressing-first e row column place softness.Old h = plain-press e row column place h
 
   press : (e : Editor) (row column place : ℕ) (extent : Extent) → P e → P (pressed_at d e row column place extent)
   press e row column place extents.Unit h = pressing-first e row column place e.soft h

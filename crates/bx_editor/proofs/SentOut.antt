@@ -1,6 +1,6 @@
 -- What Copy and Cut take goes out to a clipboard.
 use Rattle.std.proofs.Common.{◌≡◌, ℕ, ◌<◌, ◌≤◌, Bool, true, false, nat_lt, List, length, refl, sym, ap, ap₂, subst, ◌∙◌, arith, inl, inr, if◌then◌else◌}
-use Rattle.std.specs.Prelude.{◌≢◌, ◌==◌, ◌⊎◌, ◌&&◌, Option, Some, None}
+use Rattle.std.specs.Prelude.{◌≢◌, ◌==◌, ◌⊎◌, ◌&&◌, not, Option, Some, None}
 use Rattle.std.proofs.lemmas.Bool.Decides.{nat_tests}
 use Rattle.bx_keys.specs.declared.key.Key.{Key}
 use Rattle.bx_keys.specs.declared.key.Key.TheVariants.{Copy, Cut}
@@ -10,15 +10,16 @@ use Rattle.bx_editor.specs.declared.questions.answers.Prompt.{Prompt}
 use Rattle.bx_editor.specs.declared.questions.answers.Prompt.TheVariants as prompts
 use Rattle.bx_editor.specs.declared.message.Message.{Message}
 use Rattle.bx_editor.specs.declared.message.Message.TheVariants.{Copied, LineCopied, NothingToCopy, TextFull, TooLongForClipboard}
+use Rattle.bx_editor.specs.declared.message.Message.TheVariants as messages
 use Rattle.bx_editor.specs.declared.search_state.SearchState.{SearchState}
 use Rattle.bx_editor.specs.declared.search_state.SearchState.TheVariants as search_states
-use Rattle.bx_editor.specs.declared.cursor.Soft.TheVariants.{Off}
 use Rattle.bx_editor.specs.Region.{clip_of, is_clip, after_copy, after_cut, bytes_in, held_message, is_empty, largest_clip, line, region}
-use Rattle.bx_editor.specs.Region.{taken, with_held, is_selection}
+use Rattle.bx_editor.specs.Region.{taken, with_held, is_selection, is_soft, without_hard_mark, without_mark}
 use Rattle.bx_editor.specs.Editor.{Editor, cleared, with_insertion, with_removal}
-use Rattle.bx_editor.specs.Effects.{before}
+use Rattle.bx_editor.specs.Before.{before}
+use Rattle.bx_editor.specs.Effects.{Cuts, Refuses, by}
 use Rattle.bx_editor.specs.Keys.{after_any, after_key, after_press, after_user, as_left}
-use Rattle.bx_editor.specs.PasteLaws.{CopiesGoOut, SendsCopies, SendsHeld, SendsNothing}
+use Rattle.bx_editor.specs.PasteLaws.{CopiesGoOut, SendsCopies, SendsHeld, SendsNothing, cuts_in}
 use Rattle.bx_editor.specs.Putting.{ended_with, paste_ended, without_paste, has_room, put_in, with_selection_replaced}
 
 short : (n limit : ℕ) → n ≤ limit → nat_lt limit n ≡ false
@@ -89,9 +90,9 @@ module _ (d : Data) (fault : Option StoreFault) (e : Editor) where
   copies prompt search_state region_empty line_empty =
       if region_empty
       then (if line_empty
-      then record (was prompt search_state) { mark = None; soft = Off; message = Some NothingToCopy }
-      else with_held (was prompt search_state) (bytes_in e (line d e)) LineCopied)
-      else with_held (was prompt search_state) (bytes_in e (region e)) Copied
+      then record (without_hard_mark (was prompt search_state)) { message = Some NothingToCopy }
+      else with_held (was prompt search_state) (bytes_in e (line d e)) true LineCopied)
+      else with_held (was prompt search_state) (bytes_in e (region e)) false Copied
 
   -- what Cut leaves, by whether the part that it takes is empty
   abbrev cuts : Prompt → SearchState → Bool → Editor
@@ -100,26 +101,33 @@ module _ (d : Data) (fault : Option StoreFault) (e : Editor) where
       then after_copy d (was prompt search_state)
       else record (with_removal d (was prompt search_state) ((taken d e).0) ((taken d e).1) false) {
         held = bytes_in e (taken d e);
-        message = held_message e.clipboard (bytes_in e (taken d e)) None;
+        whole_line = is_empty (region e);
+        message = held_message e.clipboard (bytes_in e (taken d e)) (Some messages.Cut);
       }
+
+  -- what Cut leaves where it does its work, unless the text is only looked at
+  abbrev cutting : Prompt → SearchState → Bool → Editor
+  cutting prompt search_state looked_at = by d fault (before e) (was prompt search_state) (if looked_at then Refuses else Cuts)
 
   -- what a key leaves
   abbrev pressed : Key → Prompt → SearchState → Editor
   pressed key prompt search_state = as_left key (after_any d fault (before e) prompt search_state (cleared e) key)
 
-  -- Cut does the same in a search and a question, which it ends
-  each-cut : (P : Editor → Type 0)
-      → ((prompt : Prompt) (search_state : SearchState) (after : SearchState) → P (record (as_left Cut (after_cut d (was prompt search_state))) { search_state = after }))
-      → (prompt : Prompt) (search_state : SearchState) → P (pressed Cut prompt search_state)
-  each-cut P h prompts.Off search_states.Off = h e.prompt e.search_state ((after_cut d (cleared e)).search_state)
-  each-cut P h prompts.Off search_states.Begun = h e.prompt e.search_state search_states.Off
-  each-cut P h prompts.Off search_states.Typed = h e.prompt e.search_state search_states.Off
-  each-cut P h prompts.Off search_states.WithBegun = h e.prompt search_states.Off ((after_cut d (was e.prompt search_states.Off)).search_state)
-  each-cut P h prompts.Off search_states.WithTyped = h e.prompt search_states.Off ((after_cut d (was e.prompt search_states.Off)).search_state)
-  each-cut P h prompts.Off search_states.Replacing = h e.prompt search_states.Off ((after_cut d (was e.prompt search_states.Off)).search_state)
-  each-cut P h prompts.Line search_state = h prompts.Off e.search_state ((after_cut d (was prompts.Off e.search_state)).search_state)
-  each-cut P h prompts.Name search_state = h prompts.Off e.search_state ((after_cut d (was prompts.Off e.search_state)).search_state)
-  each-cut P h prompts.Code search_state = h prompts.Off e.search_state ((after_cut d (was prompts.Off e.search_state)).search_state)
+  -- a property of what Cut leaves: `h` where it does its work, `k` where it does not
+  module _ (P : Bool → Editor → Type 0) (h : (prompt : Prompt) (search_state : SearchState) → P true (as_left Cut (cutting prompt search_state e.read_only)))
+      (k : (prompt : Prompt) (search_state : SearchState) → P false (as_left Cut (was prompt search_state))) where
+    each-cut : (prompt : Prompt) (search_state : SearchState) → P (cuts_in prompt search_state) (pressed Cut prompt search_state)
+    each-cut prompts.Off search_states.Off = h e.prompt e.search_state
+    each-cut prompts.Off search_states.Begun = k e.prompt e.search_state
+    each-cut prompts.Off search_states.Typed = k e.prompt e.search_state
+    each-cut prompts.Off search_states.WithBegun = k e.prompt e.search_state
+    each-cut prompts.Off search_states.WithTyped = k e.prompt e.search_state
+    each-cut prompts.Off search_states.Replacing = h e.prompt search_states.Off
+    each-cut prompts.Line search_state = k e.prompt e.search_state
+    each-cut prompts.Name search_state = h prompts.Off e.search_state
+    each-cut prompts.Code search_state = k e.prompt e.search_state
+    each-cut prompts.File search_state = k e.prompt e.search_state
+    each-cut prompts.Overwrite search_state = k prompts.Off e.search_state
 
   -- ---- with a clipboard
 
@@ -127,44 +135,82 @@ module _ (d : Data) (fault : Option StoreFault) (e : Editor) where
     by-clipboard : (part : ℕ × ℕ) (own : Option Message) → held_message e.clipboard (bytes_in e part) own ≡ held_message true (bytes_in e part) own
     by-clipboard part own = ap (λ b. held_message b (bytes_in e part) own) with_one
 
+    -- a mark that is no selection's is taken off, or none is
+    held-copied : (selected : Bool) (new : Editor) → (P : Editor → Type 0) → P new → P (without_mark new) → P (if selected then new else without_mark new)
+    held-copied true new P h k = h
+    held-copied false new P h k = k
+
+    copied-sent : (part : ℕ × ℕ) (whole_line : Bool) (own : Message) → is_clip Copy (Some own) ≡ true → is_empty part ≡ false
+        → SendsHeld e part Copy (as_left Copy (with_held (was e.prompt e.search_state) (bytes_in e part) whole_line own))
+    copied-sent part whole_line own tells some =
+        let told = held_message e.clipboard (bytes_in e part) (Some own) in
+        let holding : Editor → Editor = λ x. record x { held = bytes_in e part; whole_line = whole_line; message = told } in
+        held-copied (is_soft e.soft) (cleared e) (λ x. SendsHeld e part Copy (as_left Copy (holding x)))
+        (held-sent e part Copy (Some own) (as_left Copy (holding (cleared e))) with_one refl (by-clipboard part (Some own)) tells refl some)
+        (held-sent e part Copy (Some own) (as_left Copy (holding (without_mark (cleared e)))) with_one refl (by-clipboard part (Some own)) tells refl some)
+
     copy-sends : (region_empty line_empty : Bool) → is_empty (region e) ≡ region_empty → is_empty (line d e) ≡ line_empty
         → SendsHeld e (part region_empty) Copy (as_left Copy (copies e.prompt e.search_state region_empty line_empty))
-    copy-sends true true is line_is = none-sent e (line d e) Copy (as_left Copy (copies e.prompt e.search_state true true)) refl refl line_is
-    copy-sends true false is line_is =
-        held-sent e (line d e) Copy (Some LineCopied) (as_left Copy (copies e.prompt e.search_state true false)) with_one refl
-        (by-clipboard (line d e) (Some LineCopied)) refl refl line_is
-    copy-sends false line_empty is line_is =
-        held-sent e (region e) Copy (Some Copied) (as_left Copy (copies e.prompt e.search_state false line_empty)) with_one refl
-        (by-clipboard (region e) (Some Copied)) refl refl is
+    copy-sends true true is line_is =
+        held-copied (is_soft e.soft) (cleared e)
+        (λ (x : Editor). SendsHeld e (line d e) Copy (as_left Copy (record x { message = Some NothingToCopy })))
+        (none-sent e (line d e) Copy (as_left Copy (record (cleared e) { message = Some NothingToCopy })) refl refl line_is)
+        (none-sent e (line d e) Copy (as_left Copy (record (without_mark (cleared e)) { message = Some NothingToCopy })) refl refl line_is)
+    copy-sends true false is line_is = copied-sent (line d e) true LineCopied refl line_is
+    copy-sends false line_empty is line_is = copied-sent (region e) false Copied refl is
 
     -- where nothing is taken, the region and the line are empty
     nothing-copied : (prompt : Prompt) (search_state : SearchState) (region_empty : Bool) → is_empty (region e) ≡ region_empty → is_empty (part region_empty) ≡ true
-        → after_copy d (was prompt search_state) ≡ record (was prompt search_state) { mark = None; soft = Off; message = Some NothingToCopy }
+        → after_copy d (was prompt search_state) ≡ record (without_hard_mark (was prompt search_state)) { message = Some NothingToCopy }
     nothing-copied prompt search_state true is none = ap₂ (copies prompt search_state) is none
     nothing-copied prompt search_state false is none = let no = sym is ∙ none in absurd (cc no)
 
-    cut-sends : (prompt : Prompt) (search_state after : SearchState) (empty : Bool) → is_empty (taken d e) ≡ empty
-        → SendsHeld e (taken d e) Cut (record (as_left Cut (cuts prompt search_state empty)) { search_state = after })
-    cut-sends prompt search_state after true none =
-        subst (λ (x : Editor). SendsHeld e (taken d e) Cut (record (as_left Cut x) { search_state = after }))
-        (sym (nothing-copied prompt search_state (is_empty (region e)) refl none))
-        (none-sent e (taken d e) Cut (record (as_left Cut (copies prompt search_state true true)) { search_state = after }) refl refl none)
-    cut-sends prompt search_state after false some =
-        held-sent e (taken d e) Cut None (record (as_left Cut (cuts prompt search_state false)) { search_state = after }) with_one refl
-        (by-clipboard (taken d e) None) refl refl some
+    cut-sends : (prompt : Prompt) (search_state : SearchState) (empty : Bool) → is_empty (taken d e) ≡ empty
+        → SendsHeld e (taken d e) Cut (as_left Cut (cuts prompt search_state empty))
+    cut-sends prompt search_state true none =
+        let found = was prompt search_state in
+        subst (λ (x : Editor). SendsHeld e (taken d e) Cut (as_left Cut x)) (sym (nothing-copied prompt search_state (is_empty (region e)) refl none))
+        (held-copied (is_soft e.soft) found (λ (x : Editor). SendsHeld e (taken d e) Cut (as_left Cut (record x { message = Some NothingToCopy })))
+        (none-sent e (taken d e) Cut (as_left Cut (record found { message = Some NothingToCopy })) refl refl none)
+        (none-sent e (taken d e) Cut (as_left Cut (record (without_mark found) { message = Some NothingToCopy })) refl refl none))
+    cut-sends prompt search_state false some =
+        held-sent e (taken d e) Cut (Some messages.Cut) (as_left Cut (cuts prompt search_state false)) with_one refl
+        (by-clipboard (taken d e) (Some messages.Cut)) refl refl some
+
+    -- what Cut sends, by whether it does its work, and the text is only looked at
+    abbrev CutSends : Bool → Bool → Editor → Type 0
+    CutSends works looked_at new =
+        (works && not looked_at ≡ true → SendsHeld e (taken d e) Cut new) × (works && not looked_at ≡ false → SendsNothing e Cut new)
+
+    cutting-sends : (looked_at : Bool) (prompt : Prompt) (search_state : SearchState) → CutSends true looked_at (as_left Cut (cutting prompt search_state looked_at))
+    cutting-sends true prompt search_state =
+        (λ no. absurd (cc no), λ _. record { none = no-clip (as_left Cut (cutting prompt search_state true)) Cut refl; stays = refl })
+    cutting-sends false prompt search_state = (λ _. cut-sends prompt search_state (is_empty (taken d e)) refl, λ no. absurd (cc no))
+
+    passing-sends : (looked_at : Bool) (prompt : Prompt) (search_state : SearchState) → CutSends false looked_at (as_left Cut (was prompt search_state))
+    passing-sends looked_at prompt search_state =
+        (λ no. absurd (cc no), λ _. record { none = no-clip (as_left Cut (was prompt search_state)) Cut refl; stays = refl })
+
+    cut-out : CutSends (cuts_in e.prompt e.search_state) e.read_only (pressed Cut e.prompt e.search_state)
+    cut-out = each-cut (λ works new. CutSends works e.read_only new) (cutting-sends e.read_only) (passing-sends e.read_only) e.prompt e.search_state
 
     -- Copy in a search or a question gives it up
+    given-up : (new : Editor) → is_clip Copy new.message ≡ false → new.held ≡ e.held → SendsNothing e Copy new
+    given-up new other held = record { none = no-clip new Copy other; stays = held }
+
     gives-up : (prompt : Prompt) (search_state : SearchState) → (prompt ≢ prompts.Off) ⊎ (search_state ≢ search_states.Off) → SendsNothing e Copy (pressed Copy prompt search_state)
     gives-up prompts.Off search_states.Off (inl other) = absurd (other refl)
     gives-up prompts.Off search_states.Off (inr other) = absurd (other refl)
-    gives-up prompts.Off search_states.Begun other = record { none = no-clip (pressed Copy prompts.Off search_states.Begun) Copy refl; stays = refl }
-    gives-up prompts.Off search_states.Typed other = record { none = no-clip (pressed Copy prompts.Off search_states.Typed) Copy refl; stays = refl }
-    gives-up prompts.Off search_states.WithBegun other = record { none = no-clip (pressed Copy prompts.Off search_states.WithBegun) Copy refl; stays = refl }
-    gives-up prompts.Off search_states.WithTyped other = record { none = no-clip (pressed Copy prompts.Off search_states.WithTyped) Copy refl; stays = refl }
-    gives-up prompts.Off search_states.Replacing other = record { none = no-clip (pressed Copy prompts.Off search_states.Replacing) Copy refl; stays = refl }
-    gives-up prompts.Line search_state other = record { none = no-clip (pressed Copy prompts.Line search_state) Copy refl; stays = refl }
-    gives-up prompts.Name search_state other = record { none = no-clip (pressed Copy prompts.Name search_state) Copy refl; stays = refl }
-    gives-up prompts.Code search_state other = record { none = no-clip (pressed Copy prompts.Code search_state) Copy refl; stays = refl }
+    gives-up prompts.Off search_states.Begun other = given-up (pressed Copy prompts.Off search_states.Begun) refl refl
+    gives-up prompts.Off search_states.Typed other = given-up (pressed Copy prompts.Off search_states.Typed) refl refl
+    gives-up prompts.Off search_states.WithBegun other = given-up (pressed Copy prompts.Off search_states.WithBegun) refl refl
+    gives-up prompts.Off search_states.WithTyped other = given-up (pressed Copy prompts.Off search_states.WithTyped) refl refl
+    gives-up prompts.Off search_states.Replacing other = given-up (pressed Copy prompts.Off search_states.Replacing) refl refl
+    gives-up prompts.Line search_state other = given-up (pressed Copy prompts.Line search_state) refl refl
+    gives-up prompts.Name search_state other = given-up (pressed Copy prompts.Name search_state) refl refl
+    gives-up prompts.Code search_state other = given-up (pressed Copy prompts.Code search_state) refl refl
+    gives-up prompts.File search_state other = given-up (pressed Copy prompts.File search_state) refl refl
+    gives-up prompts.Overwrite search_state other = given-up (pressed Copy prompts.Overwrite search_state) refl refl
 
     copy-out : (prompt : Prompt) (search_state : SearchState) → prompt ≡ prompts.Off → search_state ≡ search_states.Off → SendsHeld e (taken d e) Copy (pressed Copy prompt search_state)
     copy-out prompt search_state unasked off =
@@ -174,22 +220,34 @@ module _ (d : Data) (fault : Option StoreFault) (e : Editor) where
     sends = record {
       copy = copy-out e.prompt e.search_state;
       given_up = gives-up e.prompt e.search_state;
-      cut = each-cut (SendsHeld e (taken d e) Cut) (λ prompt search_state after. cut-sends prompt search_state after (is_empty (taken d e)) refl) e.prompt e.search_state;
+      cut = cut-out.0;
+      uncut = cut-out.1;
     }
 
   -- ---- without one
 
+  without-hard-keeps : (selected : Bool) (new : Editor) (told : Option Message) → new.clipboard ≡ e.clipboard
+      → (let x : Editor = if selected then new else without_mark new in x.clipboard) ≡ e.clipboard
+  without-hard-keeps true new told same = same
+  without-hard-keeps false new told same = same
+
   clipboard-after-copy : (prompt : Prompt) (search_state : SearchState) → (after_copy d (was prompt search_state)).clipboard ≡ e.clipboard
   clipboard-after-copy prompt search_state =
+      let free = without-hard-keeps (is_soft e.soft) (was prompt search_state) None refl in
       each (is_empty (region e)) (is_empty (line d e)) (λ new. new.clipboard ≡ e.clipboard) (copies prompt search_state true true) (copies prompt search_state true false)
-      (copies prompt search_state false true) refl refl refl
+      (copies prompt search_state false true) free free free
 
   clipboard-after-cut : (prompt : Prompt) (search_state : SearchState) (empty : Bool) → (cuts prompt search_state empty).clipboard ≡ e.clipboard
   clipboard-after-cut prompt search_state true = clipboard-after-copy prompt search_state
   clipboard-after-cut prompt search_state false = refl
 
+  clipboard-after-cutting : (looked_at : Bool) (prompt : Prompt) (search_state : SearchState) → (cutting prompt search_state looked_at).clipboard ≡ e.clipboard
+  clipboard-after-cutting true prompt search_state = refl
+  clipboard-after-cutting false prompt search_state = clipboard-after-cut prompt search_state (is_empty (taken d e))
+
   cut-keeps : (prompt : Prompt) (search_state : SearchState) → (pressed Cut prompt search_state).clipboard ≡ e.clipboard
-  cut-keeps = each-cut (λ new. new.clipboard ≡ e.clipboard) (λ prompt search_state after. clipboard-after-cut prompt search_state (is_empty (taken d e)))
+  cut-keeps =
+      each-cut (λ _ new. new.clipboard ≡ e.clipboard) (clipboard-after-cutting e.read_only) (λ prompt search_state. refl)
 
   copy-keeps : (prompt : Prompt) (search_state : SearchState) → (pressed Copy prompt search_state).clipboard ≡ e.clipboard
   copy-keeps prompts.Off search_states.Off = clipboard-after-copy e.prompt e.search_state
@@ -201,6 +259,8 @@ module _ (d : Data) (fault : Option StoreFault) (e : Editor) where
   copy-keeps prompts.Line search_state = refl
   copy-keeps prompts.Name search_state = refl
   copy-keeps prompts.Code search_state = refl
+  copy-keeps prompts.File search_state = refl
+  copy-keeps prompts.Overwrite search_state = refl
 
 -- ---- in any state
 

@@ -129,7 +129,7 @@ changes_text _ = false
 
 -- such a key is refused where the text is only looked at
 abbrev pub allowed_effect : Data → Editor → Key → Effect
-allowed_effect d e key = if e.read_only && changes_text key then Refuses else effect_of d e key
+allowed_effect d e key = if changes_text key && e.read_only then Refuses else effect_of d e key
 
 -- the editor after a key, outside a search and a question
 abbrev pub after_pressing : Data → Option StoreFault → Before → Editor → Key → Editor
@@ -230,17 +230,14 @@ after_asking d fault was _ e key = answered_question d fault was e key (answer_o
 
 -- ---- any key
 
-abbrev pub is_replace : Key → Bool
-is_replace Replace = true
-is_replace _ = false
-
 abbrev pub is_overwrite : Prompt → Bool
 is_overwrite prompts.Overwrite = true
 is_overwrite _ = false
 
 -- where the text is only looked at, Replace neither begins nor ends anything, but where the question is whether to overwrite
 abbrev pub refuses_replacing : Editor → Key → Bool
-refuses_replacing e key = e.read_only && is_replace key && not (is_overwrite e.prompt)
+refuses_replacing e Replace = e.read_only && not (is_overwrite e.prompt)
+refuses_replacing e _ = false
 
 -- a question has the key before a search has
 abbrev pub after_any : Data → Option StoreFault → Before → Prompt → SearchState → Editor → Key → Editor

@@ -226,7 +226,7 @@ impl<D: BidiData + Drop> Editor<D> {
         ensures err { OnErr result (self.new ≡ self.old) }
         ensures edits { OnErr result (is_edit_or_move key ≡ true) }
     {
-        if self.read_only && changes_text(key) {
+        if changes_text(key) && self.read_only {
             self.tell(Message::ViewOnly);
             return Ok(());
         }
