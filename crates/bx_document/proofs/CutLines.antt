@@ -3,7 +3,7 @@ use Rattle.std.proofs.Common.{◌≡◌, ℕ, ◌+◌, ◌-◌, ◌<◌, ◌≤�
 use Rattle.std.proofs.Common.{if◌then◌else◌}
 use Rattle.std.specs.Prelude.{Option, Some, None}
 use Rattle.std.proofs.lemmas.Bool.Decides.{nat_tests}
-use Rattle.std.proofs.lemmas.List.{drop-get}
+use Rattle.std.proofs.lemmas.List.{drop_more}
 use Rattle.bx_rows.specs.declared.drawn.Drawn.{Drawn}
 use Rattle.bx_rows.specs.RowPicture.{Glyph}
 use Rattle.bx_rows.specs.Shown.{glyph_of}
@@ -56,7 +56,7 @@ module _ (w before : ℕ) (ds : List Drawn) (i cell : ℕ) where
       ∙ ap (λ n. Some (record { glyphs = map glyph_of (drop i ds); column = n })) (sym is.1)
 
   parts : (d : Drawn) → i < length ds → get_or ds i d ≡ d → drop i ds ≡ d ∷ drop (i + 1) ds
-  parts d inside at = drop-get i ds d inside ∙ ap (λ x. x ∷ drop (i + 1) ds) at
+  parts d inside at = drop_more ds i d inside ∙ ap (λ x. x ∷ drop (i + 1) ds) at
 
   pub shown-never : (d : Drawn) → i < length ds → get_or ds i d ≡ d → None ≡ column_of w before cell → cell ≤ d.columns
       → shown_line w before (map glyph_of (drop i ds)) cell ≡ None

@@ -4,6 +4,9 @@ pub mod RowGlyphs
 pub mod Fitting
 pub mod RoomBehind
 pub mod CutLines
+mod FirstRow
+mod InputRow
+mod ShownName
 pub mod TurnedWhere
 pub mod RegionColumns
 pub mod TurnedSlots

@@ -4,7 +4,7 @@ ghost use Rattle.bx_common.specs.Characters.{are_ascii_printable, is_side};
 ghost use Rattle.bx_rows.specs.RowPicture.{blank, letter_glyphs};
 ghost use Rattle.bx_rows.specs.Shown.{glyph_of};
 ghost use Rattle.bx_document.specs.Drawing.{fitting, glyph_row};
-ghost use Rattle.bx_document.specs.InputLine.{column_shown, glyphs_or, input_line, line_glyphs, shown_line};
+ghost use Rattle.bx_document.specs.InputLine.{column_shown, glyphs_or, input_line, line_glyphs, shown_line, shown_with};
 ghost use Rattle.bx_document.specs.StatusRow.{direction_text, name_glyphs, shown_name, with_end, with_some_end};
 ghost use Rattle.bx_document.specs.Narrow.{IsWellDrawn};
 
@@ -132,6 +132,38 @@ fn cut_for(glyphs: &[Drawn<'_>], before: usize, cell: u16, width: u16) -> Option
         left_out: glyphs.len(),
         column,
     })
+}
+
+/// What a row shows of an input line: the number of glyphs that are left out at its left, and the column of the cursor, if it has room.
+#[derive(Clone, Copy)]
+struct LinePart {
+    left_out: usize,
+    column: Option<u16>,
+}
+
+/// The part of an input line that a row shows, by the column of the cursor's cell among the glyphs.
+fn part_for(glyphs: &[Drawn<'_>], before: usize, cell: Option<u16>, width: u16) -> LinePart
+    requires some { 1 ≤ before }
+    ensures within { result.left_out ≤ length glyphs.now }
+    ensures shown { map glyph_of (drop result.left_out glyphs.now)
+        ≡ glyphs_or (map glyph_of glyphs.now) (shown_with width before (map glyph_of glyphs.now) cell) }
+    ensures column { result.column ≡ column_shown (shown_with width before (map glyph_of glyphs.now) cell) }
+    ensures inside { IfSome result.column (λ c. (1 ≤ c) × (c ≤ width)) }
+{
+    let all = LinePart {
+        left_out: 0,
+        column: None,
+    };
+    let Some(cell) = cell else {
+        return all;
+    };
+    match cut_for(glyphs, before, cell, width) {
+        None => all,
+        Some(cut) => LinePart {
+            left_out: cut.left_out,
+            column: Some(cut.column),
+        },
+    }
 }
 
 /// A glyph of a text that stays.
@@ -338,22 +370,14 @@ impl<D: BidiData + Drop> Document<D> {
         let mut view = view_of(self.alloc);
         let LineRow { picture: found, cell } = first_row(&mut view, &text_ref, place)?;
         let width = self.width();
-        let cut = match cell {
-            None => None,
-            Some(cell) => cut_for(&found.glyphs, text.len(), cell, width),
-        };
-        let left_out = match cut {
-            None => 0,
-            Some(cut) => cut.left_out,
-        };
+        let part = part_for(&found.glyphs, text.len(), cell, width);
         let mut picture = RowPicture::of_letters(self.alloc, text)?;
-        push_glyphs(&mut picture.glyphs, &found.glyphs[left_out..])?;
+        push_glyphs(&mut picture.glyphs, &found.glyphs[part.left_out..])?;
         push_some_end(self.alloc, &mut picture.glyphs, end, width)?;
         let row = glyph_row(self.alloc, &picture.glyphs, width)?;
-        let column = match cut {
-            None => None,
-            Some(cut) => Some(cut.column),
-        };
-        Ok(StatusRow { row, column })
+        Ok(StatusRow {
+            row,
+            column: part.column,
+        })
     }
 }
