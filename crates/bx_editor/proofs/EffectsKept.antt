@@ -342,9 +342,9 @@ module _ (P : Editor → Type 0) (keeps : IsKeptPasting P) where
   begin-keeps e prompts.File search_state pasted h = h
   begin-keeps e prompts.Overwrite search_state pasted h = h
 
-  started-keeps : (refused : Bool) (no yes : Editor) → P no → P yes → P (if refused then unpressed no else unpressed yes)
-  started-keeps true no yes h k = keeps.unpressed no h
-  started-keeps false no yes h k = keeps.unpressed yes k
+  started-keeps : (refused : Bool) (old new : Editor) → P old → P new → P (if refused then unpressed old else unpressed new)
+  started-keeps true old new h k = keeps.unpressed old h
+  started-keeps false old new h k = keeps.unpressed new k
 
   pub start-keeps : (e : Editor) → P e → P (after_paste_start e)
   start-keeps e h =
