@@ -14,7 +14,7 @@ use Rattle.bx_view.proofs.Computed.{rows}
 use Rattle.bx_document.specs.declared.edits.RegionEnd.TheVariants.{Start, Stop}
 use Rattle.bx_document.specs.declared.history.HistoryStep.TheVariants.{Undo, Redo}
 use Rattle.bx_document.specs.Document.{Document, after_replacement, after_wrap, at_opening, place_after}
-use Rattle.bx_document.specs.Drawing.{row_columns, region_columns, region_rows, turned_where, glyph_row, query_glyphs}
+use Rattle.bx_document.specs.Drawing.{row_columns, region_columns, region_rows, turned_where}
 use Rattle.bx_document.specs.History.{next_changes, stepped_times}
 use Rattle.bx_document.specs.Past.{next_change, stepped}
 use Rattle.bx_document.specs.Line.{line_of}
@@ -50,24 +50,6 @@ blanks_after_a_message = refl
 a_long_message_is_cut : glyph_row 2 (letter_glyphs (codes "abc")) ≡ plain (codes "ab")
 unfolding unicode_segmentation unicode_width
 a_long_message_is_cut = refl
-
--- a message and a query in a row
-abbrev asked : ℕ → List ℕ → List Col
-asked w query = glyph_row w (letter_glyphs (codes "ab") ++ query_glyphs small (encode_utf8_all query))
-
--- a wide glyph needs two columns, and no glyph follows one that has no room
-a_wide_glyph_has_no_room : asked 3 (wide ∷ 0x78 ∷ []) ≡ plain (codes "ab ")
-unfolding unicode_segmentation unicode_width
-a_wide_glyph_has_no_room = refl
-
--- a query from right to left is in its own order, beside the message
-a_query_in_its_order : asked 5 (alef ∷ bet ∷ []) ≡ plain (codes "ab") ++ letter 0xd7 0x91 ∷ letter 0xd7 0x90 ∷ blank ∷ []
-unfolding unicode_segmentation unicode_width
-a_query_in_its_order = refl
-
-an_empty_query : asked 4 [] ≡ plain (codes "ab  ")
-unfolding unicode_segmentation unicode_width
-an_empty_query = refl
 
 -- ---- a row, and a region in it
 

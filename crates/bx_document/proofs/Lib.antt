@@ -28,6 +28,7 @@ pub mod SeparatorsRead
 pub mod UnitLevels
 pub mod PlaceLevels
 mod Examples
+mod StatusExamples
 pub mod TurnedExamples
 mod PlaceExamples
 mod LevelExamples

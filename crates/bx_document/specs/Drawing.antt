@@ -1,14 +1,13 @@
--- The columns that show a row of text, a region in it, and the status row. `d` is the data of Unicode's tables, `w` or `width` the
+-- The columns that show a row of text, and a region in it, and rows of glyphs that are cut where they have no room. `d` is the data of Unicode's tables, `w` or `width` the
 -- window's columns.
 use Rattle.std.specs.Prelude.{ℕ, ◌+◌, ◌*◌, ◌≤◌, ◌<◌, List, flat_map, ◌-◌, Bool, [], ◌∷◌, ◌++◌, length, replicate, if◌then◌else◌, nat_le}
-use Rattle.std.specs.Prelude.{true, false, take, map, chars, encode_utf8}
+use Rattle.std.specs.Prelude.{true, false, take}
 use Rattle.bx_grid.specs.Columns.{Col, glyph_columns, blank, turned}
-use Rattle.bx_paragraph.specs.BodyRows.{BodyRow, row_glyphs, body_rows, row_at, row_own_glyphs}
-use Rattle.bx_rows.specs.RowPicture.{Glyph, glyph}
+use Rattle.bx_paragraph.specs.BodyRows.{BodyRow, row_glyphs}
+use Rattle.bx_rows.specs.RowPicture.{Glyph}
 use Rattle.bx_view.specs.TextRows.{TextRow, row_of}
 use Rattle.bx_view.specs.Top.{is_covered}
 use Rattle.bx_ucd.specs.Data.{Data}
-use Rattle.bx_common.specs.declared.base.Base.TheVariants.{Auto}
 
 -- the columns of glyphs side by side
 abbrev pub side_by_side : List Glyph → List Col
@@ -42,12 +41,7 @@ region_columns d w region r = turned_where (is_covered w region r) 1 (row_column
 abbrev pub region_rows : Data → ℕ → ℕ × ℕ → ℕ → List TextRow → List Col
 region_rows d w region count shown = flat_map (region_columns d w region) shown ++ replicate ((count - length shown) * w) blank
 
--- ---- a status row, which leaves out the glyphs that do not fit
-
--- The glyphs of a query from left to right. The query is laid out as a text of its own in 500 columns, the widest window
--- (`largest_side`), whatever window shows it, and its first row counts.
-abbrev pub query_glyphs : Data → List ℕ → List Glyph
-query_glyphs d query = row_own_glyphs d 500 (row_at (body_rows d Auto 500 query) 0)
+-- ---- a row that leaves out the glyphs that do not fit
 
 -- the leftmost glyphs, up to but without the first one that does not fit into `w` columns
 abbrev pub fitting : ℕ → List Glyph → List Glyph
@@ -57,9 +51,3 @@ fitting w (g ∷ gs) = elim (nat_le g.columns w) [ true ↦ g ∷ fitting (w - g
 -- a row of `w` columns: the glyphs that fit, and blanks on their right
 abbrev pub glyph_row : ℕ → List Glyph → List Col
 glyph_row w glyphs = take w (side_by_side (fitting w glyphs) ++ replicate w blank)
-
--- ---- characters as they were typed
-
--- the glyphs of some bytes' characters in the order in which they were typed, a column for each, not in negative
-abbrev pub typed_glyphs : List ℕ → List Glyph
-typed_glyphs typed = map (λ c. glyph (encode_utf8 c) 1 false) (chars typed)

@@ -1,8 +1,7 @@
 -- The status row: at its left what is told, at its right a file's name and the direction of a paragraph. `d` is the data of Unicode's
 -- tables, `w` the row's columns.
-use Rattle.std.specs.Prelude.{ℕ, ◌+◌, ◌-◌, ◌==◌, ◌||◌, nat_le, Bool, true, false, not, List, [], ◌∷◌, ◌++◌, filter, length, replicate, chars, codes, encode_utf8_all}
+use Rattle.std.specs.Prelude.{ℕ, ◌+◌, ◌-◌, ◌==◌, ◌||◌, nat_le, Bool, true, false, not, List, [], ◌∷◌, ◌++◌, filter, replicate, chars, codes, encode_utf8_all}
 use Rattle.std.specs.Prelude.{Option, Some, None, if◌then◌else◌}
-use Rattle.bx_document.specs.Drawing.{query_glyphs}
 use Rattle.bx_document.specs.InputLine.{columns_taken, line_glyphs}
 use Rattle.bx_rows.specs.RowPicture.{Glyph, blank, letter_glyphs}
 use Rattle.bx_text.specs.index.Paragraphs.{is_separator}

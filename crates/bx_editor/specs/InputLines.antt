@@ -21,7 +21,7 @@ use Rattle.bx_editor.specs.declared.questions.answers.Prompt.TheVariants as prom
 use Rattle.bx_editor.specs.declared.search_state.SearchState.{SearchState}
 use Rattle.bx_editor.specs.declared.search_state.SearchState.TheVariants as search_states
 use Rattle.bx_editor.specs.declared.undo_groups.typing.Typing.{Typing}
-use Rattle.bx_editor.specs.declared.undo_groups.typing.Typing.TheVariants.{Off, Paste, Spent}
+use Rattle.bx_editor.specs.declared.undo_groups.typing.Typing.TheVariants.{Paste, Spent}
 use Rattle.bx_editor.specs.Editor.{Editor, with_typing}
 use Rattle.bx_editor.specs.LineState.{LineState}
 use Rattle.bx_editor.specs.questions.Answers.{shortened}
@@ -111,15 +111,19 @@ is_taken d Paste c = not (ends_line d c)
 is_taken d Spent c = false
 is_taken d typing c = true
 
--- what goes on behind it: a paste, which is spent at the end of its first line
-abbrev pub behind_letter : Data → Typing → ℕ → Typing
-behind_letter d Paste c = if ends_line d c then Spent else Paste
-behind_letter d Spent c = Spent
-behind_letter d typing c = Off
+-- the paste that goes on behind it, which is spent at the end of its first line; None if it was typed
+abbrev pub paste_behind : Data → Typing → ℕ → Option Typing
+paste_behind d Paste c = Some (if ends_line d c then Spent else Paste)
+paste_behind d Spent c = Some Spent
+paste_behind d typing c = None
 
--- a character is typed, with its effect `new`
+abbrev pub with_paste_behind : Option Typing → Editor → Editor
+with_paste_behind None e = e
+with_paste_behind (Some typing) e = with_typing e typing
+
+-- a character is typed or pasted, with its effect `new`
 abbrev pub after_taking : Data → Typing → ℕ → Editor → Editor → Editor
-after_taking d typing c e new = with_typing (if is_taken d typing c then new else e) (behind_letter d typing c)
+after_taking d typing c e new = with_paste_behind (paste_behind d typing c) (if is_taken d typing c then new else e)
 
 -- ---- what is put in
 

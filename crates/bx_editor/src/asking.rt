@@ -295,13 +295,13 @@ impl<D: BidiData + Drop> Editor<D> {
         ensures err { OnErr result (self.new ≡ self.old) }
         ensures saved { self.old.editor.prompt ≡ Prompt.File → c ≡ 0xA → IsOk result }
     {
-        let behind = self.behind_letter(c);
+        let paste = self.paste_behind(c);
         if self.is_taken(c) {
             self.type_answer(c, fault)?;
         } else {
             self.reset_after_key();
         }
-        self.typing = behind;
+        self.go_on_with(paste);
         Ok(())
     }
 

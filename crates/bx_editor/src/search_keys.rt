@@ -5,7 +5,7 @@ ghost use Rattle.bx_editor.specs.declared.questions.answers.Prompt.{Prompt};
 ghost use Rattle.bx_editor.specs.Answering.{answer_of, without_line};
 ghost use Rattle.bx_editor.specs.Before.{before};
 ghost use Rattle.bx_editor.specs.Editor.{cleared, with_typing};
-ghost use Rattle.bx_editor.specs.InputLines.{after_taking, behind_letter, ends_line, is_taken};
+ghost use Rattle.bx_editor.specs.InputLines.{after_taking, ends_line, is_taken, paste_behind, with_paste_behind};
 ghost use Rattle.bx_editor.specs.Keys.{after_pressing, answered, answered_match, answered_replacement, is_edit_or_move};
 ghost use Rattle.bx_editor.specs.Origin.{asks_replacement, is_queried};
 ghost use Rattle.bx_editor.specs.Putting.{only_paste};
@@ -42,14 +42,23 @@ impl<D: BidiData + Drop> Editor<D> {
         }
     }
 
-    /// What goes on behind a character that is typed or pasted in an input line.
-    pub(crate) fn behind_letter(&self, c: char) -> Typing
-        ensures { result ≡ behind_letter (D.data self.now.tables) self.now.editor.typing c }
+    /// The paste that goes on behind a character in an input line; none if it is typed.
+    pub(crate) fn paste_behind(&self, c: char) -> Option<Typing>
+        ensures { result ≡ paste_behind (D.data self.now.tables) self.now.editor.typing c }
     {
         match self.typing {
-            Typing::Paste if !ends_line(&self.document, c) => Typing::Paste,
-            Typing::Paste | Typing::Spent => Typing::Spent,
-            _ => Typing::Off,
+            Typing::Paste if !ends_line(&self.document, c) => Some(Typing::Paste),
+            Typing::Paste | Typing::Spent => Some(Typing::Spent),
+            _ => None,
+        }
+    }
+
+    /// Goes on with a paste.
+    pub(crate) fn go_on_with(&mut self, paste: Option<Typing>)
+        ensures { self.new ≡ record self.old { editor = with_paste_behind paste self.old.editor } }
+    {
+        if let Some(typing) = paste {
+            self.typing = typing;
         }
     }
 
@@ -96,13 +105,13 @@ impl<D: BidiData + Drop> Editor<D> {
         }) }
         ensures err { OnErr result (self.new ≡ self.old) }
     {
-        let behind = self.behind_letter(c);
+        let paste = self.paste_behind(c);
         if self.is_taken(c) {
             self.seek_letter(c)?;
         } else {
             self.reset_after_key();
         }
-        self.typing = behind;
+        self.go_on_with(paste);
         Ok(())
     }
 
@@ -164,13 +173,13 @@ impl<D: BidiData + Drop> Editor<D> {
         }) }
         ensures err { OnErr result (self.new ≡ self.old) }
     {
-        let behind = self.behind_letter(c);
+        let paste = self.paste_behind(c);
         if self.is_taken(c) {
             self.take_letter(c)?;
         } else {
             self.reset_after_key();
         }
-        self.typing = behind;
+        self.go_on_with(paste);
         Ok(())
     }
 

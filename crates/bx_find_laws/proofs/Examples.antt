@@ -6,7 +6,7 @@ use Rattle.std.specs.Char.{encode_utf8}
 use Rattle.bx_ucd.specs.SmallTables.{small}
 use Rattle.bx_find.specs.Letters.{is_passed_over, letters_of, letters}
 use Rattle.bx_find.specs.Matches.{first_from, last_before, spans_from}
-use Rattle.bx_find.specs.Parts.{first_before, last_from}
+use Rattle.bx_find.specs.Parts.{first_between, last_from}
 use Rattle.bx_find.specs.declared.letters.Reading.TheVariants.{Wide, Close}
 use Rattle.ucd_case.proofs.Computing.{ucd_case}
 use Rattle.unicode_normalization.proofs.Computing.{unicode_normalization}
@@ -165,11 +165,15 @@ ends_inside : map (λ q. first_from small Wide (letters small Wide q) sharp 0) (
 unfolding chars encode_utf8 unicode_normalization ucd_case
 ends_inside = refl
 
--- ---- before an offset, and from one on
+-- ---- between two offsets, and from one on
 
-first_of_two : map (first_before small Close (codes "ab") (codes "abab")) (0 ∷ 1 ∷ 4 ∷ []) ≡ None ∷ Some 0 ∷ Some 0 ∷ []
+first_of_two : map (first_between small Close (codes "ab") (codes "abab") 0) (0 ∷ 1 ∷ 4 ∷ []) ≡ None ∷ Some 0 ∷ Some 0 ∷ []
 unfolding chars encode_utf8
 first_of_two = refl
+
+second_of_two : map (first_between small Close (codes "ab") (codes "abab") 1) (2 ∷ 3 ∷ []) ≡ None ∷ Some 2 ∷ []
+unfolding chars encode_utf8
+second_of_two = refl
 
 last_of_two : map (last_from small Close (codes "ab") (codes "abab")) (0 ∷ 2 ∷ 3 ∷ []) ≡ Some 2 ∷ Some 2 ∷ None ∷ []
 unfolding chars encode_utf8

@@ -1,4 +1,4 @@
 pub mod LawExamples
 pub mod Examples
-pub mod FirstBefore
+pub mod FirstBetween
 pub mod Following

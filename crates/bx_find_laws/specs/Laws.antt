@@ -2,7 +2,7 @@
 use Rattle.std.specs.Prelude.{◌≡◌, ℕ, ◌≤◌, ◌<◌, List, [], ◌∷◌, MatchOption, IsUtf8}
 use Rattle.bx_ucd.specs.Data.{Data}
 use Rattle.bx_find.specs.Matches.{is_match, first_from, last_before, match_end, spans_from}
-use Rattle.bx_find.specs.Parts.{first_before}
+use Rattle.bx_find.specs.Parts.{first_between}
 use Rattle.bx_find.specs.declared.letters.Reading.{Reading}
 use Rattle.bx_find.specs.Nearest.{IsFirst, IsLast, MatchesAt}
 
@@ -12,17 +12,18 @@ FirstFromIsFirst = (ucd : Data) (reading : Reading) (sought text : List ℕ) (x 
     → MatchOption (first_from ucd reading sought text x) ((i : ℕ) → x ≤ i → ¬ (MatchesAt ucd reading sought text i))
     (IsFirst ucd reading sought text x)
 
--- the first match before x
-pub record IsFirstBefore (ucd : Data) (reading : Reading) (sought text : List ℕ) (x at : ℕ) : Type 0 where
+-- the first match at or after `start`, before `stop`
+pub record IsFirstBetween (ucd : Data) (reading : Reading) (sought text : List ℕ) (start stop at : ℕ) : Type 0 where
   pub is_match : MatchesAt ucd reading sought text at
-  pub before : at < x
-  pub least : (i : ℕ) → MatchesAt ucd reading sought text i → at ≤ i
+  pub not_before : start ≤ at
+  pub before : at < stop
+  pub least : (i : ℕ) → start ≤ i → MatchesAt ucd reading sought text i → at ≤ i
 
--- `first_before` is the first match before x, None if there is none
-abbrev pub FirstBeforeIsFirst : Type 0
-FirstBeforeIsFirst = (ucd : Data) (reading : Reading) (sought text : List ℕ) (x : ℕ) → IsUtf8 text
-    → MatchOption (first_before ucd reading sought text x) ((i : ℕ) → i < x → ¬ (MatchesAt ucd reading sought text i))
-    (IsFirstBefore ucd reading sought text x)
+-- `first_between` is the first match from `start` on and before `stop`, None if there is none
+abbrev pub FirstBetweenIsFirst : Type 0
+FirstBetweenIsFirst = (ucd : Data) (reading : Reading) (sought text : List ℕ) (start stop : ℕ) → IsUtf8 text
+    → MatchOption (first_between ucd reading sought text start stop)
+    ((i : ℕ) → start ≤ i → i < stop → ¬ (MatchesAt ucd reading sought text i)) (IsFirstBetween ucd reading sought text start stop)
 
 -- `last_before` is the last match before x, None if there is none
 abbrev pub LastBeforeIsLast : Type 0

@@ -3,4 +3,4 @@
 
 mod laws;
 
-pub use laws::{first_before_is_first, first_from_is_first, last_before_is_last, spans_follow};
+pub use laws::{first_between_is_first, first_from_is_first, last_before_is_last, spans_follow};

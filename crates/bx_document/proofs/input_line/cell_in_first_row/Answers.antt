@@ -1,4 +1,4 @@
-use Rattle.std.proofs.Common.{◌≡◌, ◌∙◌, ap₂, refl, sym}
+use Rattle.std.proofs.Common.{◌≡◌, ◌∙◌, ap₂, refl}
 use Rattle.bx_view.specs.TextRows.{cell_of}
 use Rattle.bx_view.proofs.CachedRows.{rows-kept}
 use Rattle.bx_document.proofs.FirstRow.{none-before, number-none, number-some, some-before}

@@ -1,4 +1,4 @@
-use Rattle.std.proofs.Common.{◌≡◌, ◌∙◌, ap, ap₂, map, sym, refl}
+use Rattle.std.proofs.Common.{◌≡◌, ◌∙◌, ap, ap₂, map, sym}
 use Rattle.std.specs.Prelude.{Some, unwrap_or}
 use Rattle.bx_rows.specs.Shown.{glyph_of}
 use Rattle.bx_paragraph.specs.BodyRows.{row_own_glyphs}

@@ -1,5 +1,4 @@
-use Rattle.std.proofs.Common.{◌≡◌, ◌≤◌, ◌∙◌, List, ap, length, map, subst, sym, take}
-use Rattle.bx_rows.specs.Shown.{glyph_of}
+use Rattle.std.proofs.Common.{◌∙◌, take}
 use Rattle.bx_document.proofs.Fitting.{row-of}
 use Rattle.bx_document.proofs.status_row.glyph_row.Goals as goal
 

@@ -1,10 +1,10 @@
-use Rattle.std.proofs.Common.{◌≡◌, ◌∙◌, ◌-◌, ◌++◌, List, ap, ap₂, drop, length, map, sym, take}
+use Rattle.std.proofs.Common.{◌≡◌, ◌∙◌, ◌++◌, ap, ap₂, drop, length, map, sym}
 use Rattle.std.specs.Prelude.{option_map}
-use Rattle.bx_rows.specs.declared.drawn.Drawn.{Drawn}
 use Rattle.bx_rows.specs.RowPicture.{letter_glyphs}
 use Rattle.bx_rows.specs.Shown.{glyph_of}
+use Rattle.bx_view.specs.TextRef.{bytes}
 use Rattle.bx_document.specs.Drawing.{glyph_row}
-use Rattle.bx_document.specs.InputLine.{column_shown, glyphs_or, input_line, line_cell, line_glyphs, shown_with}
+use Rattle.bx_document.specs.InputLine.{column_shown, glyphs_or, line_cell, line_glyphs}
 use Rattle.bx_document.specs.StatusRow.{with_some_end}
 use Rattle.bx_document.proofs.InputRow.{input-row, part-told, rest-drawn, rest-glyphs}
 use Rattle.bx_document.proofs.document.Document.draw_input.Goals as goal
@@ -22,8 +22,9 @@ returns-clause-row g c =
     let w' = c.width-width.result in
     let d = g.D.BidiData.data c.args.self.now.tables in
     let part = c.part_for-part.result in
-    let tables = c.of-text_ref.ensures.tables ∙ c.tables-tables.ensures ∙ ap (λ s. s.tables) c.self.view_is in
-    let text = ap (λ t. t.edited.text) c.of-text_ref.ensures.text ∙ c.in_ok-typed.ensures.text in
+    let tables : c.of-text_ref.result.tables.now ≡ c.args.self.now.tables =
+    c.of-text_ref.ensures.tables ∙ c.tables-tables.ensures ∙ ap (λ s. s.tables) c.self.view_is in
+    let text : bytes c.of-text_ref.result ≡ c.args.line.now = ap (λ t. t.edited.text) c.of-text_ref.ensures.text ∙ c.in_ok-typed.ensures.text in
     let found = c.in_ok-found.field-0.picture.glyphs.items in
     let line = map glyph_of (drop part.left_out found) in
     let end = option_map (λ e. (e.name.now, e.is_rtl)) c.args.end in
@@ -45,8 +46,9 @@ returns-clause-row g c =
 pub returns-clause-column : goal.returns-clause-column
 returns-clause-column g c =
     let d = g.D.BidiData.data c.args.self.now.tables in
-    let tables = c.of-text_ref.ensures.tables ∙ c.tables-tables.ensures ∙ ap (λ s. s.tables) c.self.view_is in
-    let text = ap (λ t. t.edited.text) c.of-text_ref.ensures.text ∙ c.in_ok-typed.ensures.text in
+    let tables : c.of-text_ref.result.tables.now ≡ c.args.self.now.tables =
+    c.of-text_ref.ensures.tables ∙ c.tables-tables.ensures ∙ ap (λ s. s.tables) c.self.view_is in
+    let text : bytes c.of-text_ref.result ≡ c.args.line.now = ap (λ t. t.edited.text) c.of-text_ref.ensures.text ∙ c.in_ok-typed.ensures.text in
     let found = c.in_ok-found.field-0.picture.glyphs.items in
     let glyphs : map glyph_of found ≡ line_glyphs d c.args.line.now =
     c.in_ok-found.ensures.glyphs ∙ ap₂ (λ t s. line_glyphs (g.D.BidiData.data t) s) tables text in

@@ -1,4 +1,4 @@
-use Rattle.std.proofs.Common.{◌≡◌, ◌∙◌, ap, chars, sym, not, filter}
+use Rattle.std.proofs.Common.{◌≡◌, ◌∙◌, ap, chars, sym}
 use Rattle.std.specs.Prelude.{encode_utf8_all, string_bytes}
 use Rattle.std.proofs.lemmas.Iterator.{YieldsList-from_chars}
 use Rattle.std.proofs.lemmas.Iterator.Consumers.{YieldsList-end}
