@@ -40,6 +40,18 @@ impl<D: BidiData + Drop> Document<D> {
         bx_find::first_from(&self.indexed, text_ref.tables, reading, query, x)
     }
 
+    /// The byte offset of a query's first match in the text, for a caller that has found none at or after `x`. Allocates nothing.
+    pub fn first_before(&self, reading: Reading, query: &Query, x: usize) -> Option<usize>
+        requires bounds { IsCharBoundary self.now.document.content.text x }
+        requires none_from { first_from (D.data self.now.tables) reading query.now self.now.document.content.text x ≡ None }
+        ensures found { result ≡ first_from (D.data self.now.tables) reading query.now self.now.document.content.text 0 }
+        ensures boundary { IfSome result (IsCharBoundary self.now.document.content.text) }
+    {
+        // It promises that the text is UTF-8, in which the search begins.
+        let text_ref = self.indexed.text_ref();
+        bx_find::first_between(&self.indexed, text_ref.tables, reading, query, 0, x)
+    }
+
     /// The byte offset of a query's first match at or after `start`, if it is before `stop`. Allocates nothing.
     pub fn first_between(
         &self,

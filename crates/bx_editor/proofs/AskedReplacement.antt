@@ -7,18 +7,32 @@ use Rattle.bx_editor.specs.declared.matches.Landing.{Landing}
 use Rattle.bx_editor.specs.declared.search_state.SearchState.TheVariants.{Typed}
 use Rattle.bx_editor.specs.Editor.{Editor}
 use Rattle.bx_editor.specs.Replacing.{after_asking_replacement, asked_at}
-use Rattle.bx_editor.specs.Search.{landed, landing_from, sought}
+use Rattle.bx_editor.specs.Search.{landed, landing_from, nothing_sought, sought}
 
 pub is-false : (b : Bool) → not b ≡ true → b ≡ false
 is-false true h = absurd (cc)
 is-false false h = refl
 
--- the query is nowhere
-pub asked-nowhere : (d : Data) (e : Editor) (landing : Landing) → (length (sought d (record e { purpose = Replace })) == 0) ≡ false
-    → landing ≡ landing_from d e.place (record e { purpose = Replace }) → landing.place ≡ None
-    → record (landed (record e { purpose = Replace }) landing) { search_state = Typed } ≡ after_asking_replacement d e
-asked-nowhere d e landing some is none =
-    let aimed : Editor = record e { purpose = Replace } in
-    let asked : Landing → Editor = λ l. asked_at l.place (landed aimed l) in
-    ap (λ o. asked_at o (landed aimed landing)) (sym none) ∙ ap asked is
-    ∙ ap (λ b. if b then aimed else asked (landing_from d e.place aimed)) (sym some)
+module _ (d : Data) (e : Editor) where
+  abbrev aimed : Editor
+  aimed = record e { purpose = Replace }
+
+  abbrev asked-by : Bool → Editor
+  asked-by b =
+      if b then landed aimed (nothing_sought aimed.query)
+      else let l = landing_from d aimed.place aimed in asked_at l.place (landed aimed l)
+
+  -- the query has no letters
+  pub asked-nothing : (length (sought d aimed) == 0) ≡ true → landed aimed (nothing_sought aimed.query) ≡ after_asking_replacement d e
+  asked-nothing none = sym (ap asked-by none)
+
+  -- it is nowhere, or somewhere
+  pub asked-there : (landing : Landing) → (length (sought d aimed) == 0) ≡ false → landing ≡ landing_from d e.place aimed
+      → asked_at landing.place (landed aimed landing) ≡ after_asking_replacement d e
+  asked-there landing some is =
+      ap (λ (l : Landing). asked_at l.place (landed aimed l)) is ∙ sym (ap asked-by some)
+
+  pub asked-nowhere : (landing : Landing) → (length (sought d aimed) == 0) ≡ false → landing ≡ landing_from d e.place aimed → landing.place ≡ None
+      → record (landed aimed landing) { search_state = Typed } ≡ after_asking_replacement d e
+  asked-nowhere landing some is none =
+      ap (λ o. asked_at o (landed aimed landing)) (sym none) ∙ asked-there landing some is

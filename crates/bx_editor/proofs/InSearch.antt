@@ -1,11 +1,12 @@
 -- Keys in a search, and in a question.
-use Rattle.std.proofs.Common.{◌≡◌, ℕ, List, false, Option, Some, None, refl, sym, ap, ap₂, ◌∙◌}
+use Rattle.std.proofs.Common.{◌≡◌, ℕ, List, false, Option, Some, None, refl, sym, ap, ap₂, ◌∙◌, if◌then◌else◌}
 use Rattle.bx_keys.specs.declared.key.Key.{Key}
 use Rattle.bx_keys.specs.declared.key.Key.TheVariants.{Insert, Erase, Delete, Back, Forward, Up, Down, Right, Left, RowHome, RowEnd, PageUp, PageDown, Save}
 use Rattle.bx_keys.specs.declared.key.Key.TheVariants.{Quit, Undo, Redo, Repaint, Direction, Size, Mark, Copy, Cut, Put}
 use Rattle.bx_keys.specs.declared.key.Key.TheVariants.{Find, FindBack, WordLeft, WordRight, TextStart, TextEnd, Help, Notice}
 use Rattle.bx_keys.specs.declared.key.Key.TheVariants.{EraseWord, DeleteWord, ErasePoint, NewLine, FindNext, Cancel, LineUp, LineDown, PageBack, PageOn}
 use Rattle.bx_keys.specs.declared.key.Key.TheVariants.{Select, UndoRun, RedoRun, GoTo, Replace, Name, Tell, PasteStart, PasteEnd, Point}
+use Rattle.bx_keys.specs.declared.key.Key.TheVariants.{AskOverwrite, Drag, Fill, FindPrevious, SaveAs, ScrollBack, ScrollOn, SelectAll}
 use Rattle.bx_keys.specs.declared.notice.Notice as told
 use Rattle.bx_store.specs.declared.store.StoreFault.{StoreFault}
 use Rattle.bx_ucd.specs.Data.{Data}
@@ -14,83 +15,88 @@ use Rattle.bx_editor.specs.declared.questions.answers.Prompt.TheVariants as prom
 use Rattle.bx_editor.specs.Asking.{without_prompt}
 use Rattle.bx_editor.specs.declared.search_state.SearchState.{SearchState}
 use Rattle.bx_editor.specs.declared.search_state.SearchState.TheVariants.{Off, Begun, Typed, WithBegun, WithTyped, Replacing}
-use Rattle.bx_editor.specs.Editor.{Editor, after_save, cleared, with_notice, with_size}
-use Rattle.bx_editor.specs.Effects.{Before, before}
-use Rattle.bx_editor.specs.Keys.{after_any, after_in_paste, after_key, after_press, after_user}
+use Rattle.bx_editor.specs.Editor.{Editor, cleared, with_notice, with_size}
+use Rattle.bx_editor.specs.Before.{Before, before}
+use Rattle.bx_editor.specs.Effects.{Refuses, Saves, by}
+use Rattle.bx_editor.specs.Keys.{after_any, after_in_paste, after_key, after_press, after_pressing, after_user, as_left}
 use Rattle.bx_editor.specs.Functions.{is_told_key}
 use Rattle.bx_editor.specs.Putting.{after_paste_end, after_paste_start, after_pasted_letter, paste_ended}
-use Rattle.bx_editor.specs.Prompts.{HasOnePrompt}
 use Rattle.bx_editor.specs.Search.{without_search}
-use Rattle.bx_editor.specs.Region.{aged}
-
--- what a key leaves that keeps no column, and ages a selection
-abbrev pub behind : Editor → Editor
-behind e = record e { goal = None; soft = aged e.soft }
+use Rattle.bx_editor.specs.Saving.{after_saving}
 
 -- any key is told, or one that the user presses
 pub each-key : (d : Data) (fault : Option StoreFault) (e : Editor) (P : Key → Editor → Type 0) → ((height width : ℕ) → P (Size height width) (with_size e height width))
-    → ((notice : told.Notice) → P (Notice notice) (with_notice e notice))
+    → ((notice : told.Notice) → P (Notice notice) (with_notice e notice)) → P Fill e
     → (P PasteStart (after_paste_start e) × P PasteEnd (after_paste_end d e))
     → ((key : Key) → is_told_key key ≡ false → P key (after_press d fault e.pasted e key)) → (key : Key)
     → P key (after_key d fault e key)
-each-key d fault e P sized noted pasted other (Size height width) = sized height width
-each-key d fault e P sized noted pasted other (Notice notice) = noted notice
-each-key d fault e P sized noted pasted other (Insert c) = other (Insert c) refl
-each-key d fault e P sized noted pasted other Erase = other Erase refl
-each-key d fault e P sized noted pasted other Delete = other Delete refl
-each-key d fault e P sized noted pasted other Back = other Back refl
-each-key d fault e P sized noted pasted other Forward = other Forward refl
-each-key d fault e P sized noted pasted other Up = other Up refl
-each-key d fault e P sized noted pasted other Down = other Down refl
-each-key d fault e P sized noted pasted other Right = other Right refl
-each-key d fault e P sized noted pasted other Left = other Left refl
-each-key d fault e P sized noted pasted other RowHome = other RowHome refl
-each-key d fault e P sized noted pasted other RowEnd = other RowEnd refl
-each-key d fault e P sized noted pasted other PageUp = other PageUp refl
-each-key d fault e P sized noted pasted other PageDown = other PageDown refl
-each-key d fault e P sized noted pasted other Save = other Save refl
-each-key d fault e P sized noted pasted other Quit = other Quit refl
-each-key d fault e P sized noted pasted other Undo = other Undo refl
-each-key d fault e P sized noted pasted other Redo = other Redo refl
-each-key d fault e P sized noted pasted other Repaint = other Repaint refl
-each-key d fault e P sized noted pasted other Direction = other Direction refl
-each-key d fault e P sized noted pasted other Mark = other Mark refl
-each-key d fault e P sized noted pasted other Copy = other Copy refl
-each-key d fault e P sized noted pasted other Cut = other Cut refl
-each-key d fault e P sized noted pasted other Put = other Put refl
-each-key d fault e P sized noted pasted other Find = other Find refl
-each-key d fault e P sized noted pasted other FindBack = other FindBack refl
-each-key d fault e P sized noted pasted other WordLeft = other WordLeft refl
-each-key d fault e P sized noted pasted other WordRight = other WordRight refl
-each-key d fault e P sized noted pasted other TextStart = other TextStart refl
-each-key d fault e P sized noted pasted other TextEnd = other TextEnd refl
-each-key d fault e P sized noted pasted other Help = other Help refl
-each-key d fault e P sized noted pasted other EraseWord = other EraseWord refl
-each-key d fault e P sized noted pasted other DeleteWord = other DeleteWord refl
-each-key d fault e P sized noted pasted other ErasePoint = other ErasePoint refl
-each-key d fault e P sized noted pasted other NewLine = other NewLine refl
-each-key d fault e P sized noted pasted other FindNext = other FindNext refl
-each-key d fault e P sized noted pasted other Cancel = other Cancel refl
-each-key d fault e P sized noted pasted other LineUp = other LineUp refl
-each-key d fault e P sized noted pasted other LineDown = other LineDown refl
-each-key d fault e P sized noted pasted other PageBack = other PageBack refl
-each-key d fault e P sized noted pasted other PageOn = other PageOn refl
-each-key d fault e P sized noted pasted other Select = other Select refl
-each-key d fault e P sized noted pasted other UndoRun = other UndoRun refl
-each-key d fault e P sized noted pasted other RedoRun = other RedoRun refl
-each-key d fault e P sized noted pasted other GoTo = other GoTo refl
-each-key d fault e P sized noted pasted other Replace = other Replace refl
-each-key d fault e P sized noted pasted other Name = other Name refl
-each-key d fault e P sized noted pasted other Tell = other Tell refl
-each-key d fault e P sized noted pasted other (Point row column) = other (Point row column) refl
-each-key d fault e P sized noted pasted other PasteStart = pasted.0
-each-key d fault e P sized noted pasted other PasteEnd = pasted.1
+each-key d fault e P sized noted filled pasted other (Size height width) = sized height width
+each-key d fault e P sized noted filled pasted other (Notice notice) = noted notice
+each-key d fault e P sized noted filled pasted other (Insert c) = other (Insert c) refl
+each-key d fault e P sized noted filled pasted other Erase = other Erase refl
+each-key d fault e P sized noted filled pasted other Delete = other Delete refl
+each-key d fault e P sized noted filled pasted other Back = other Back refl
+each-key d fault e P sized noted filled pasted other Forward = other Forward refl
+each-key d fault e P sized noted filled pasted other Up = other Up refl
+each-key d fault e P sized noted filled pasted other Down = other Down refl
+each-key d fault e P sized noted filled pasted other Right = other Right refl
+each-key d fault e P sized noted filled pasted other Left = other Left refl
+each-key d fault e P sized noted filled pasted other RowHome = other RowHome refl
+each-key d fault e P sized noted filled pasted other RowEnd = other RowEnd refl
+each-key d fault e P sized noted filled pasted other PageUp = other PageUp refl
+each-key d fault e P sized noted filled pasted other PageDown = other PageDown refl
+each-key d fault e P sized noted filled pasted other Save = other Save refl
+each-key d fault e P sized noted filled pasted other Quit = other Quit refl
+each-key d fault e P sized noted filled pasted other Undo = other Undo refl
+each-key d fault e P sized noted filled pasted other Redo = other Redo refl
+each-key d fault e P sized noted filled pasted other Repaint = other Repaint refl
+each-key d fault e P sized noted filled pasted other Direction = other Direction refl
+each-key d fault e P sized noted filled pasted other Mark = other Mark refl
+each-key d fault e P sized noted filled pasted other Copy = other Copy refl
+each-key d fault e P sized noted filled pasted other Cut = other Cut refl
+each-key d fault e P sized noted filled pasted other Put = other Put refl
+each-key d fault e P sized noted filled pasted other Find = other Find refl
+each-key d fault e P sized noted filled pasted other FindBack = other FindBack refl
+each-key d fault e P sized noted filled pasted other WordLeft = other WordLeft refl
+each-key d fault e P sized noted filled pasted other WordRight = other WordRight refl
+each-key d fault e P sized noted filled pasted other TextStart = other TextStart refl
+each-key d fault e P sized noted filled pasted other TextEnd = other TextEnd refl
+each-key d fault e P sized noted filled pasted other Help = other Help refl
+each-key d fault e P sized noted filled pasted other EraseWord = other EraseWord refl
+each-key d fault e P sized noted filled pasted other DeleteWord = other DeleteWord refl
+each-key d fault e P sized noted filled pasted other ErasePoint = other ErasePoint refl
+each-key d fault e P sized noted filled pasted other NewLine = other NewLine refl
+each-key d fault e P sized noted filled pasted other FindNext = other FindNext refl
+each-key d fault e P sized noted filled pasted other Cancel = other Cancel refl
+each-key d fault e P sized noted filled pasted other LineUp = other LineUp refl
+each-key d fault e P sized noted filled pasted other LineDown = other LineDown refl
+each-key d fault e P sized noted filled pasted other PageBack = other PageBack refl
+each-key d fault e P sized noted filled pasted other PageOn = other PageOn refl
+each-key d fault e P sized noted filled pasted other Select = other Select refl
+each-key d fault e P sized noted filled pasted other UndoRun = other UndoRun refl
+each-key d fault e P sized noted filled pasted other RedoRun = other RedoRun refl
+each-key d fault e P sized noted filled pasted other GoTo = other GoTo refl
+each-key d fault e P sized noted filled pasted other Replace = other Replace refl
+each-key d fault e P sized noted filled pasted other Name = other Name refl
+each-key d fault e P sized noted filled pasted other Tell = other Tell refl
+each-key d fault e P sized noted filled pasted other (Point row column) = other (Point row column) refl
+each-key d fault e P sized noted filled pasted other (Drag row column) = other (Drag row column) refl
+each-key d fault e P sized noted filled pasted other ScrollBack = other ScrollBack refl
+each-key d fault e P sized noted filled pasted other ScrollOn = other ScrollOn refl
+each-key d fault e P sized noted filled pasted other SelectAll = other SelectAll refl
+each-key d fault e P sized noted filled pasted other FindPrevious = other FindPrevious refl
+each-key d fault e P sized noted filled pasted other SaveAs = other SaveAs refl
+each-key d fault e P sized noted filled pasted other AskOverwrite = other AskOverwrite refl
+each-key d fault e P sized noted filled pasted other Fill = filled
+each-key d fault e P sized noted filled pasted other PasteStart = pasted.0
+each-key d fault e P sized noted filled pasted other PasteEnd = pasted.1
 
 pub pressed-key : (d : Data) (fault : Option StoreFault) (e : Editor) (key : Key) → is_told_key key ≡ false
     → after_key d fault e key ≡ after_press d fault e.pasted e key
 pressed-key d fault e =
     each-key d fault e (λ key new. is_told_key key ≡ false → new ≡ after_press d fault e.pasted e key)
-    (λ height width told. absurd (cc told)) (λ notice told. absurd (cc told)) (λ told. absurd (cc told), λ told. absurd (cc told)) (λ key small other. refl)
+    (λ height width told. absurd (cc told)) (λ notice told. absurd (cc told)) (λ told. absurd (cc told))
+    (λ told. absurd (cc told), λ told. absurd (cc told)) (λ key small other. refl)
 
 -- where no paste is under way
 pub any-key : (d : Data) (fault : Option StoreFault) (e : Editor) (key : Key) → e.pasted ≡ None → is_told_key key ≡ false
@@ -119,33 +125,45 @@ pub press-keeps : (d : Data) (fault : Option StoreFault) (e : Editor) (P : Edito
 press-keeps d fault e P key plain ended letter h =
     press-by d fault e P key e.pasted letter (plain e h) (plain (paste_ended d e) (ended e h))
 
--- ---- a Save
+-- ---- a Save, where the text is not only looked at
 
 -- it ends a search and a question, and leaves an editor without both as it is
-saved : (e : Editor) (fault : Option StoreFault) (prompt : Prompt) (search_state : SearchState) → prompt ≡ prompts.Off → search_state ≡ Off
-    → after_save (record e { prompt = prompt; search_state = search_state }) fault ≡ without_prompt (without_search (after_save e fault))
-saved e None prompt search_state unasked unsought = ap₂ (λ a s. after_save (record e { prompt = a; search_state = s }) None) unasked unsought
-saved e (Some fault) prompt search_state unasked unsought = ap₂ (λ a s. after_save (record e { prompt = a; search_state = s }) (Some fault)) unasked unsought
+plain : (e : Editor) (prompt : Prompt) (search_state : SearchState) → prompt ≡ prompts.Off → search_state ≡ Off
+    → record e { prompt = prompt; search_state = search_state } ≡ without_prompt (without_search e)
+plain e prompt search_state unasked unsought = ap₂ (λ a s. record e { prompt = a; search_state = s }) unasked unsought
 
--- in a search
-searched : (e : Editor) (fault : Option StoreFault) → e.prompt ≡ prompts.Off
-    → without_search (after_save e fault) ≡ without_prompt (without_search (after_save e fault))
-searched e None unasked = ap (λ a. record (without_search (after_save e None)) { prompt = a }) unasked
-searched e (Some fault) unasked = ap (λ a. record (without_search (after_save e (Some fault))) { prompt = a }) unasked
+pressed : (d : Data) (fault : Option StoreFault) (was : Before) (e : Editor) → e.read_only ≡ false
+    → after_pressing d fault was e Save ≡ after_saving fault e
+pressed d fault was e writes = ap (λ b. by d fault was e (if b then Refuses else Saves)) writes
 
-save-any : (d : Data) (fault : Option StoreFault) (was : Before) (prompt : Prompt) (search_state : SearchState) (e : Editor) → e.prompt ≡ prompt → e.search_state ≡ search_state → HasOnePrompt e
-    → after_any d fault was prompt search_state e Save ≡ without_prompt (without_search (after_save e fault))
-save-any d fault was prompts.Off Off e unasked unsought one = saved e fault e.prompt e.search_state unasked unsought
-save-any d fault was prompts.Off Begun e unasked on one = searched e fault unasked
-save-any d fault was prompts.Off Typed e unasked on one = searched e fault unasked
-save-any d fault was prompts.Off WithBegun e unasked on one = saved e fault e.prompt Off unasked refl
-save-any d fault was prompts.Off WithTyped e unasked on one = saved e fault e.prompt Off unasked refl
-save-any d fault was prompts.Off Replacing e unasked on one = saved e fault e.prompt Off unasked refl
-save-any d fault was prompts.Line search_state e asked is one = saved e fault prompts.Off e.search_state refl (one (λ off. let both = sym asked ∙ off in cc both))
-save-any d fault was prompts.Name search_state e asked is one = saved e fault prompts.Off e.search_state refl (one (λ off. let both = sym asked ∙ off in cc both))
-save-any d fault was prompts.Code search_state e asked is one = saved e fault prompts.Off e.search_state refl (one (λ off. let both = sym asked ∙ off in cc both))
+-- from an editor with what is asked and sought given
+ended-by : (d : Data) (fault : Option StoreFault) (was : Before) (e : Editor) (prompt : Prompt) (search_state : SearchState) → e.read_only ≡ false
+    → prompt ≡ prompts.Off → search_state ≡ Off
+    → after_pressing d fault was (record e { prompt = prompt; search_state = search_state }) Save
+    ≡ after_saving fault (without_prompt (without_search e))
+ended-by d fault was e prompt search_state writes unasked unsought =
+    pressed d fault was (record e { prompt = prompt; search_state = search_state }) writes
+    ∙ ap (after_saving fault) (plain e prompt search_state unasked unsought)
 
-pub save-ends : (d : Data) (fault : Option StoreFault) (e : Editor) → e.pasted ≡ None → HasOnePrompt e
-    → after_key d fault e Save ≡ behind (without_prompt (without_search (after_save (cleared e) fault)))
-save-ends d fault e none one =
-    any-key d fault e Save none refl ∙ ap behind (save-any d fault (before e) e.prompt e.search_state (cleared e) refl refl one)
+save-any : (d : Data) (fault : Option StoreFault) (was : Before) (prompt : Prompt) (search_state : SearchState) (e : Editor) → e.prompt ≡ prompt
+    → e.search_state ≡ search_state → e.read_only ≡ false → (prompt ≡ prompts.Overwrite → ⊥)
+    → after_any d fault was prompt search_state e Save ≡ after_saving fault (without_prompt (without_search e))
+save-any d fault was prompts.Off Off e unasked unsought writes other = ended-by d fault was e e.prompt e.search_state writes unasked unsought
+save-any d fault was prompts.Off Begun e unasked on writes other = ended-by d fault was e e.prompt Off writes unasked refl
+save-any d fault was prompts.Off Typed e unasked on writes other = ended-by d fault was e e.prompt Off writes unasked refl
+save-any d fault was prompts.Off WithBegun e unasked on writes other = ended-by d fault was e e.prompt Off writes unasked refl
+save-any d fault was prompts.Off WithTyped e unasked on writes other = ended-by d fault was e e.prompt Off writes unasked refl
+save-any d fault was prompts.Off Replacing e unasked on writes other = ended-by d fault was e e.prompt Off writes unasked refl
+save-any d fault was prompts.Line search_state e asked is writes other = ended-by d fault was e prompts.Off Off writes refl refl
+save-any d fault was prompts.Name search_state e asked is writes other = ended-by d fault was e prompts.Off Off writes refl refl
+save-any d fault was prompts.Code search_state e asked is writes other = ended-by d fault was e prompts.Off Off writes refl refl
+save-any d fault was prompts.File search_state e asked is writes other = ended-by d fault was e prompts.Off Off writes refl refl
+save-any d fault was prompts.Overwrite search_state e asked is writes other = absurd (other refl)
+
+-- in the question whether to overwrite it only declines
+pub save-ends : (d : Data) (fault : Option StoreFault) (e : Editor) → e.pasted ≡ None → e.read_only ≡ false
+    → (e.prompt ≡ prompts.Overwrite → ⊥)
+    → after_key d fault e Save ≡ as_left Save (after_saving fault (without_prompt (without_search (cleared e))))
+save-ends d fault e none writes other =
+    any-key d fault e Save none refl
+    ∙ ap (as_left Save) (save-any d fault (before e) e.prompt e.search_state (cleared e) refl refl writes other)

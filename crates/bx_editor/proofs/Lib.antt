@@ -3,7 +3,6 @@ pub mod Viewed
 pub mod StepOrder
 pub mod Parts
 pub mod Shown
-pub mod Narrow
 pub mod AnswersKept
 pub mod QuestionLeft
 pub mod ToldHere
@@ -13,6 +12,8 @@ pub mod OnItsCell
 pub mod Begin
 pub mod Sought
 pub mod InSearch
+pub mod Saved
+pub mod LinePutsKept
 pub mod QuestionSteps
 pub mod Searches
 pub mod EffectsKept

@@ -25,7 +25,8 @@ use Rattle.bx_editor.specs.Asking.{after_name_letter, after_named, answer_length
 use Rattle.bx_editor.specs.Asking.{longest_code, longest_line, with_answer, with_character, without_prompt, after_wrapping, spans_lines, with_wrap}
 use Rattle.bx_editor.specs.Before.{Before}
 use Rattle.bx_editor.specs.Editor.{Editor, with_insertion, with_place, with_typing}
-use Rattle.bx_editor.specs.InputLines.{after_taking, behind_letter, erases_nothing, is_no_letter, is_taken, line_lengthened, line_shortened}
+use Rattle.bx_editor.specs.InputLines.{after_taking, erases_nothing, is_no_letter, is_taken, line_lengthened, line_shortened, paste_behind}
+use Rattle.bx_editor.specs.InputLines.{with_paste_behind}
 use Rattle.bx_editor.specs.Keys.{after_pressing, answered_name, answered_question}
 use Rattle.bx_editor.specs.LinePuts.{after_line_put}
 use Rattle.bx_editor.specs.LineState.{LineState}
@@ -43,6 +44,7 @@ pub record IsKept (d : Data) (P : Editor → Type 0) : Type 0 where
   pub placed : (e : Editor) (place : ℕ) → P e → P (with_place e place)
   pub typed : (e : Editor) (typing : Typing) → P e → P (with_typing e typing)
   pub asked : (e : Editor) (prompt : Prompt) (answer : List ℕ) (cursor : ℕ) → P e → P (record e { prompt = prompt; answer = answer; input_cursor = cursor })
+  pub unasked : (e : Editor) → P e → P (without_prompt e)
   -- the cursor moves in the answer; a search that is on would have a line of its own
   pub moved : (e : Editor) (text : List ℕ) (m : Move) → P e → P (after_moving_in d e text m)
   -- the text was stored under the answer, or was not
@@ -54,7 +56,7 @@ module _ (d : Data) (P : Editor → Type 0) (keeps : IsKept d P) where
   either false p q h k = k
 
   unasked : (e : Editor) → P e → P (without_prompt e)
-  unasked e h = keeps.asked e Off e.answer e.input_cursor h
+  unasked e h = keeps.unasked e h
 
   answer : (e : Editor) (l : LineState) → P e → P (with_answer e l)
   answer e l h = keeps.asked e e.prompt l.text l.cursor h
@@ -99,9 +101,9 @@ module _ (d : Data) (P : Editor → Type 0) (keeps : IsKept d P) where
   named-one e c (Some closer) h =
       either (is_empty (region e)) (with_character d e c) (after_wrapping d e c closer) (character e c h) (wrapping e c closer h)
 
-  name-letter : (e : Editor) (letter : ℕ) (c : Option ℕ) → P e → P (after_name_letter d e letter c)
-  name-letter e letter (Some c) h = named-one (without_prompt e) c (closing letter) (unasked e h)
-  name-letter e letter None h =
+  pub name-letter-keeps : (e : Editor) (letter : ℕ) (c : Option ℕ) → P e → P (after_name_letter d e letter c)
+  name-letter-keeps e letter (Some c) h = named-one (without_prompt e) c (closing letter) (unasked e h)
+  name-letter-keeps e letter None h =
       either (asks_code letter) (asking e Code) (if letter == 0xA then without_prompt e else e) (keeps.asked e Code [] 0 h)
       (either (letter == 0xA) (without_prompt e) e (unasked e h) h)
 
@@ -135,9 +137,13 @@ module _ (d : Data) (P : Editor → Type 0) (keeps : IsKept d P) where
   letter-keeps fault File e c h = file-letter fault e c h
   letter-keeps fault Overwrite e c h = h
 
-  taking : (typing : Typing) (c : ℕ) (e new : Editor) → P e → P new → P (after_taking d typing c e new)
+  paste-behind : (typing : Option Typing) (e : Editor) → P e → P (with_paste_behind typing e)
+  paste-behind None e h = h
+  paste-behind (Some typing) e h = keeps.typed e typing h
+
+  pub taking : (typing : Typing) (c : ℕ) (e new : Editor) → P e → P new → P (after_taking d typing c e new)
   taking typing c e new h k =
-      keeps.typed (if is_taken d typing c then new else e) (behind_letter d typing c) (either (is_taken d typing c) new e k h)
+      paste-behind (paste_behind d typing c) (if is_taken d typing c then new else e) (either (is_taken d typing c) new e k h)
 
   pub erasing-keeps : (prompt : Prompt) (e : Editor) (how : Erasure) → P e → P (after_erasing_answer d prompt e how)
   erasing-keeps prompt e how h =
@@ -171,7 +177,7 @@ module _ (d : Data) (P : Editor → Type 0) (keeps : IsKept d P) where
   name-keeps fault was e key (Letter c) h pressed wheeled =
       let letter = name_letter c in
       either (is_paste was.typing) (with_typing e was.typing) (after_name_letter d e letter (named letter)) (keeps.typed e was.typing h)
-      (name-letter e letter (named letter) h)
+      (name-letter-keeps e letter (named letter) h)
   name-keeps fault was e key (Erases how) h pressed wheeled = h
   name-keeps fault was e key (Moves m) h pressed wheeled = pressed
   name-keeps fault was e key PutsIn h pressed wheeled = pressed

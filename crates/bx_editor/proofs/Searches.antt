@@ -23,8 +23,8 @@ use Rattle.bx_editor.specs.declared.search_state.SearchState.TheVariants.{Off, B
 use Rattle.bx_editor.specs.Before.{Before}
 use Rattle.bx_editor.specs.Editor.{Editor, rows, with_exchange, with_place, with_typing}
 use Rattle.bx_editor.specs.Effects.{Seeks, by}
-use Rattle.bx_editor.specs.InputLines.{after_taking, behind_letter, erases_nothing, is_at_end, is_no_letter, is_taken, line_lengthened, line_moved}
-use Rattle.bx_editor.specs.InputLines.{line_shortened, line_with}
+use Rattle.bx_editor.specs.InputLines.{after_taking, erases_nothing, is_at_end, is_no_letter, is_taken, line_lengthened, line_moved}
+use Rattle.bx_editor.specs.InputLines.{line_shortened, line_with, paste_behind, with_paste_behind}
 use Rattle.bx_editor.specs.Keys.{after_pressing, answered, answered_match, answered_replacement}
 use Rattle.bx_editor.specs.LinePuts.{after_line_put, typed_in_search}
 use Rattle.bx_editor.specs.LineState.{LineState}
@@ -92,10 +92,14 @@ module _ (d : Data) (P : Editor → Type 0) (keeps : IsKeptSeeking d P) where
       either grows (search_from d e.place e) (search_from d e.origin back) (searching e e.place h)
       (searching back e.origin (keeps.placed e e.origin h))
 
+  paste-behind : (typing : Option Typing) (e : Editor) → P e → P (with_paste_behind typing e)
+  paste-behind None e h = h
+  paste-behind (Some typing) e h = keeps.typed e typing h
+
   -- a character is typed or pasted in an input line, with its effect
   pub taking : (typing : Typing) (c : ℕ) (e new : Editor) → P e → P new → P (after_taking d typing c e new)
   taking typing c e new h k =
-      keeps.typed (if is_taken d typing c then new else e) (behind_letter d typing c) (either (is_taken d typing c) new e k h)
+      paste-behind (paste_behind d typing c) (if is_taken d typing c then new else e) (either (is_taken d typing c) new e k h)
 
   -- the cursor moves in an input line
   pub moving-in : (e : Editor) (text : List ℕ) (m : Move) → P e → P (after_moving_in d e text m)

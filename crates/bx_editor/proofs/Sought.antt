@@ -1,5 +1,5 @@
 -- Where a search leads, and where it starts.
-use Rattle.std.proofs.Common.{◌≡◌, ℕ, ◌<◌, Bool, true, false, nat_lt, cond, List, [], ◌∷◌, length, Some, None, refl, ap, ◌∙◌, arith}
+use Rattle.std.proofs.Common.{◌≡◌, ℕ, ◌<◌, Bool, true, false, nat_lt, cond, List, [], ◌∷◌, length, Some, None, refl, ap, sym, ◌∙◌, arith}
 use Rattle.std.proofs.Common.{ltb-true, if◌then◌else◌}
 use Rattle.std.specs.Prelude.{◌==◌, find, not, unwrap_or}
 use Rattle.bx_ucd.specs.Data.{Data}
@@ -12,9 +12,12 @@ use Rattle.bx_editor.specs.declared.message.Message.TheVariants.{FromEnd, FromSt
 use Rattle.bx_editor.specs.declared.search_state.SearchState.{SearchState}
 use Rattle.bx_editor.specs.declared.search_state.SearchState.TheVariants.{Off, Begun, Typed, WithBegun, WithTyped, Replacing}
 use Rattle.bx_editor.specs.Origin.{BeganAt}
-use Rattle.bx_editor.specs.Editor.{Editor}
-use Rattle.bx_editor.specs.Search.{after_beginning, after_find_next, after_letter, backward, forward, is_no_letter, kept}
-use Rattle.bx_editor.specs.Search.{lengthened, longest_query, match_or, next_or_start, not_found, search_from, sought, with_query}
+use Rattle.bx_editor.specs.Editor.{Editor, with_place}
+use Rattle.bx_editor.specs.declared.input_line.Erasure.{Erasure}
+use Rattle.bx_editor.specs.InputLines.{erases_nothing, is_at_end, is_no_letter, line_lengthened, line_shortened}
+use Rattle.bx_editor.specs.Search.{after_beginning, after_erasing_query, after_find_next, after_find_previous, after_letter, backward, forward}
+use Rattle.bx_editor.specs.Search.{kept, longest_query, match_or, next_or_start, not_found, nothing_sought, query_line, search_back, search_from, search_on}
+use Rattle.bx_editor.specs.Search.{sought, sought_alone, with_query}
 
 pub began : (d : Data) (text : List ℕ) (search_state : SearchState) (origin : ℕ) → IsTextPlace d text origin → BeganAt d text search_state origin
 began d text Off origin is = tt
@@ -26,19 +29,19 @@ began d text Replacing origin is = is
 
 -- ---- some letters are sought
 
-pub forward-some : (d : Data) (r : Reading) (rows : List TextRow) (text : List ℕ) (x : ℕ) (sought : List ℕ) → (sought ≡ [] → ⊥)
-    → forward d r rows text x sought
+pub forward-some : (d : Data) (r : Reading) (rows : List TextRow) (text : List ℕ) (x : ℕ) (query sought : List ℕ) → (sought ≡ [] → ⊥)
+    → forward d r rows text x query sought
     ≡ match_or rows None (match_or rows (Some FromStart) not_found (first_from d r sought text 0))
     (first_from d r sought text x)
-forward-some d r rows text x [] some = absurd (some refl)
-forward-some d r rows text x (c ∷ cs) some = refl
+forward-some d r rows text x query [] some = absurd (some refl)
+forward-some d r rows text x query (c ∷ cs) some = refl
 
-pub backward-some : (d : Data) (r : Reading) (rows : List TextRow) (text : List ℕ) (x : ℕ) (sought : List ℕ) → (sought ≡ [] → ⊥)
-    → backward d r rows text x sought
+pub backward-some : (d : Data) (r : Reading) (rows : List TextRow) (text : List ℕ) (x : ℕ) (query sought : List ℕ) → (sought ≡ [] → ⊥)
+    → backward d r rows text x query sought
     ≡ match_or rows None (match_or rows (Some FromEnd) not_found (last_before d r sought text (length text)))
     (last_before d r sought text x)
-backward-some d r rows text x [] some = absurd (some refl)
-backward-some d r rows text x (c ∷ cs) some = refl
+backward-some d r rows text x query [] some = absurd (some refl)
+backward-some d r rows text x query (c ∷ cs) some = refl
 
 -- ---- the next place
 
@@ -68,16 +71,47 @@ next-is-start place (p ∷ ps) not-less = over place p ps (nat_lt place p) refl 
 
 -- ---- what a key seeks
 
+-- without letters
+pub forward-none : (d : Data) (r : Reading) (rows : List TextRow) (text : List ℕ) (x : ℕ) (query sought : List ℕ) → sought ≡ []
+    → forward d r rows text x query sought ≡ nothing_sought query
+forward-none d r rows text x query [] none = refl
+forward-none d r rows text x query (c ∷ cs) none = absurd (cc none)
+
+pub backward-none : (d : Data) (r : Reading) (rows : List TextRow) (text : List ℕ) (x : ℕ) (query sought : List ℕ) → sought ≡ []
+    → backward d r rows text x query sought ≡ nothing_sought query
+backward-none d r rows text x query [] none = refl
+backward-none d r rows text x query (c ∷ cs) none = absurd (cc none)
+
+-- the query is sought from the place on, or from where the search began
+pub sought-on : (d : Data) (e : Editor) (b : Bool) (grows : Bool) (from : ℕ) → grows ≡ b → from ≡ (if b then e.place else e.origin)
+    → search_from d from (with_place e from) ≡ search_on d grows e
+sought-on d e true grows from is at =
+    ap (λ x. search_from d x (with_place e x)) at ∙ sym (ap (λ b. search_on d b e) is)
+sought-on d e false grows from is at =
+    ap (λ x. search_from d x (with_place e x)) at ∙ sym (ap (λ b. search_on d b e) is)
+
 pub letter-sought : (d : Data) (e : Editor) (c : ℕ) → is_no_letter d c ≡ false
-    → after_letter d e c ≡ search_from d e.place (with_query e (lengthened longest_query (kept e.search_state e.query) c))
+    → after_letter d e c
+    ≡ search_on d (is_at_end (kept e.search_state (query_line e)))
+    (with_query e (line_lengthened d longest_query (kept e.search_state (query_line e)) c))
 letter-sought d e c plain =
-    ap (λ b. if b then e else search_from d e.place (with_query e (lengthened longest_query (kept e.search_state e.query) c))) plain
+    ap (λ b. if b then e else search_on d (is_at_end (kept e.search_state (query_line e)))
+    (with_query e (line_lengthened d longest_query (kept e.search_state (query_line e)) c))) plain
+
+pub erasing-sought : (d : Data) (e : Editor) (how : Erasure) → erases_nothing d how (query_line e) ≡ false
+    → after_erasing_query d e how ≡ search_on d false (with_query e (line_shortened d how (query_line e)))
+erasing-sought d e how some =
+    ap (λ b. if b then e else search_on d false (with_query e (line_shortened d how (query_line e)))) some
 
 pub find-next-sought : (d : Data) (e : Editor) → (length (sought d e) == 0) ≡ false
-    → after_find_next d e ≡ search_from d (next_or_start d e) (record e { search_state = Off; purpose = purposes.Find })
+    → after_find_next d e ≡ search_from d (next_or_start d e) (sought_alone e)
 find-next-sought d e some =
-    ap (λ b. if b then after_beginning purposes.Find e else search_from d (next_or_start d e)
-    (record e { search_state = Off; purpose = purposes.Find })) some
+    ap (λ b. if b then after_beginning purposes.Find e else search_from d (next_or_start d e) (sought_alone e)) some
+
+pub find-previous-sought : (d : Data) (e : Editor) → (length (sought d e) == 0) ≡ false
+    → after_find_previous d e ≡ search_back d (sought_alone e)
+find-previous-sought d e some =
+    ap (λ b. if b then after_beginning purposes.Find e else search_back d (sought_alone e)) some
 
 pub not-true : (b : Bool) → not b ≡ true → b ≡ false
 not-true true h = absurd (cc h)

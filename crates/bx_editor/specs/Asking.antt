@@ -20,6 +20,7 @@ use Rattle.bx_text.specs.Edits.{fits, fits_both}
 use Rattle.bx_view.specs.Numbers.{place_of, paragraph_number}
 use Rattle.bx_editor.specs.declared.message.Message.TheVariants.{NoSuchCharacter, TextFull, MoreThanOneLine}
 use Rattle.bx_editor.specs.LineState.{LineState}
+use Rattle.bx_editor.specs.declared.search_state.SearchState.TheVariants as search_states
 use Rattle.bx_editor.specs.Editor.{Editor, rows_of, with_insertion, with_place, with_typing, with_edit}
 use Rattle.bx_editor.specs.Putting.{is_paste}
 use Rattle.bx_editor.specs.Region.{is_empty, region, bytes_in}
@@ -65,9 +66,9 @@ longest_code = 6
 abbrev pub asking : Editor → Prompt → Editor
 asking e prompt = record e { prompt = prompt; answer = []; input_cursor = 0 }
 
--- nothing is asked any more
+-- nothing is asked any more, nor sought: no search is on while something is asked
 abbrev pub without_prompt : Editor → Editor
-without_prompt e = record e { prompt = Off }
+without_prompt e = record e { prompt = Off; search_state = search_states.Off }
 
 -- the answer with the cursor in it
 abbrev pub answer_line : Editor → LineState

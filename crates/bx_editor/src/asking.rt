@@ -21,6 +21,7 @@ use crate::questions::{
     name_letter, named,
 };
 use crate::saving::confirms;
+use crate::search_state::SearchState;
 use crate::undo_groups::Kind;
 use bx_common::{OutOfMemory, Range};
 use bx_store::StoreFault;
@@ -51,11 +52,12 @@ impl<D: BidiData + Drop> Editor<D> {
         self.reset_after_key();
     }
 
-    /// Ends the question, if there is one. Allocates nothing.
+    /// Ends the question, if there is one. No search is on while something is asked, so that none is left. Allocates nothing.
     pub(crate) fn leave_question(&mut self)
         ensures { self.new ≡ record self.old { editor = without_prompt self.old.editor } }
     {
         self.prompt = Prompt::Off;
+        self.cursor.search_state = SearchState::Off;
     }
 
     /// Puts a character into the answer, unless it has as many as it may.

@@ -65,6 +65,7 @@ impl<D: BidiData + Drop> Editor<D> {
     /// Moves the cursor to where a search led, if anywhere, and sets its message. The query counts as typed: the next letter is
     /// appended to it.
     fn land(&mut self, landing: Landing)
+        requires queried { is_queried self.old.editor.search_state ≡ true }
         requires origin { IsTextPlace (D.data self.old.tables) self.old.editor.content.text self.old.editor.origin }
         requires place { IfSome landing.place (IsTextPlace (D.data self.old.tables) self.old.editor.content.text) }
         ensures { self.new ≡ record self.old { editor = landed (record (cleared self.old.editor) { search_state = SearchState.Typed }) landing } }
@@ -182,6 +183,7 @@ impl<D: BidiData + Drop> Editor<D> {
 
     /// Goes to the next match.
     pub(crate) fn find_next(&mut self) -> Result<(), OutOfMemory>
+        requires queried { is_queried self.old.editor.search_state ≡ true }
         requires origin { IsTextPlace (D.data self.old.tables) self.old.editor.content.text self.old.editor.origin }
         ensures ok { OnOk result (self.new ≡ record self.old {
           editor = after_find (D.data self.old.tables) (cleared self.old.editor);
@@ -262,6 +264,7 @@ impl<D: BidiData + Drop> Editor<D> {
 
     /// Goes to the previous match.
     pub(crate) fn find_previous(&mut self) -> Result<(), OutOfMemory>
+        requires queried { is_queried self.old.editor.search_state ≡ true }
         requires origin { IsTextPlace (D.data self.old.tables) self.old.editor.content.text self.old.editor.origin }
         ensures ok { OnOk result (self.new ≡ record self.old {
           editor = after_find_back (D.data self.old.tables) (cleared self.old.editor);
