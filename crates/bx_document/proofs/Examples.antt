@@ -14,7 +14,7 @@ use Rattle.bx_view.proofs.Computed.{rows}
 use Rattle.bx_document.specs.declared.edits.RegionEnd.TheVariants.{Start, Stop}
 use Rattle.bx_document.specs.declared.history.HistoryStep.TheVariants.{Undo, Redo}
 use Rattle.bx_document.specs.Document.{Document, after_replacement, after_wrap, at_opening, place_after}
-use Rattle.bx_document.specs.Drawing.{row_columns, region_columns, region_rows, turned_where}
+use Rattle.bx_document.specs.Drawing.{glyph_row, row_columns, region_columns, region_rows, turned_where}
 use Rattle.bx_document.specs.History.{next_changes, stepped_times}
 use Rattle.bx_document.specs.Past.{next_change, stepped}
 use Rattle.bx_document.specs.Line.{line_of}

@@ -30,8 +30,11 @@ pub mod PlaceLevels
 mod Examples
 mod StatusExamples
 pub mod TurnedExamples
+mod LineExamples
 mod PlaceExamples
 mod LevelExamples
 pub mod WrappedPlace
 pub mod ReplacedPlace
 pub mod ExchangedPlace
+pub mod InsertedBefore
+pub mod Indents

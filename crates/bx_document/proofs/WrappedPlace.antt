@@ -22,7 +22,7 @@ module _ (text : List ℕ) (start stop : ℕ) (front back whole : List ℕ) (ran
   region_length : length (slice_range text start stop) ≡ stop - start
   region_length = length-take-le (stop - start) (drop start text) (omega (arith, length-drop start text, range.stop_bounds.0))
 
-  whole_length : length whole ≡ length front + (stop - start) + length back
+  pub whole_length : length whole ≡ length front + (stop - start) + length back
   whole_length =
       ap length is
       ∙ omega (

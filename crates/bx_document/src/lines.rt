@@ -1,5 +1,6 @@
 //! Whole lines, their indents, and texts that are put over them.
-ghost use Rattle.std.specs.Prelude.{◌≡◌, ◌-◌, ◌<◌, ◌≤◌, true, false, IfOk, IfSome, IsCharBoundary, MatchOption, OnErr, prefix_len, slice_range, string_bytes};
+ghost use Rattle.std.specs.Prelude.{◌≡◌, ◌-◌, ◌<◌, ◌≤◌, true, false, IfOk, IfSome, IsCharBoundary, MatchOption, OnErr, slice_range, string_bytes};
+ghost use Rattle.std.specs.List.{prefix_len};
 ghost use Rattle.bx_text.specs.Changes.{IsRange};
 ghost use Rattle.bx_text.specs.Edits.{fits};
 ghost use Rattle.bx_view.specs.Numbers.{unit_number};
@@ -13,6 +14,7 @@ use crate::points::last_character;
 use bx_common::{LARGEST_TEXT, OutOfMemory};
 use bx_text::separates;
 use bx_ucd::BidiData;
+use bx_view::current_span;
 
 /// Whether a byte is a blank or a tab.
 fn is_indent(byte: u8) -> bool
@@ -23,9 +25,18 @@ fn is_indent(byte: u8) -> bool
 
 /// How many blanks and tabs a text begins with.
 fn indent_len(text: &str) -> usize
-    ensures { result ≡ prefix_len is_indent text.now }
+    ensures len { result ≡ prefix_len is_indent text.now }
+    ensures boundary { IsCharBoundary text.now result }
 {
-    text.bytes().take_while(|byte| is_indent(*byte)).count()
+    let bytes = text.as_bytes();
+    let mut len = 0;
+    while len < bytes.len() {
+        if !is_indent(bytes[len]) {
+            return len;
+        }
+        len += 1;
+    }
+    len
 }
 
 impl<D: BidiData + Drop> Document<D> {
@@ -34,6 +45,8 @@ impl<D: BidiData + Drop> Document<D> {
         requires text_place { IsTextPlace (D.data self.now.tables) self.now.document.content.text place }
         ensures { IfOk result (λ s. string_bytes s ≡ indent (D.data self.now.tables) self.now.document.content.text place) }
     {
+        // `len` promises that the text is UTF-8.
+        let _utf8 = self.len();
         let line = self.line_of(place);
         let mut indent = self.copy(line.start, place)?;
         let len = indent_len(indent.as_str());
@@ -47,7 +60,8 @@ impl<D: BidiData + Drop> Document<D> {
         ensures { result ≡ is_line_empty (D.data self.now.tables) self.now.document.content.text place }
     {
         let text_ref = self.indexed.text_ref();
-        let span = text_ref.index.walk_at_offset(place).span();
+        let walk = text_ref.index.walk_at_offset(place);
+        let span = current_span(&text_ref, &walk);
         span.start == span.stop
     }
 
