@@ -7,7 +7,7 @@ use Rattle.std.proofs.lemmas.List.{drop_more}
 use Rattle.bx_rows.specs.declared.drawn.Drawn.{Drawn}
 use Rattle.bx_rows.specs.RowPicture.{Glyph}
 use Rattle.bx_rows.specs.Shown.{glyph_of}
-use Rattle.bx_document.specs.InputLine.{ShownLine, shown_line}
+use Rattle.bx_document.specs.InputLine.{shown_line}
 
 -- the cursor is in the row already
 here : (w before : ℕ) (gs : List Glyph) (cell : ℕ) → nat_le (before + cell) w ≡ true

@@ -1,6 +1,6 @@
 -- Worked examples, computed with the small tables: status rows, regions in drawn rows, lines, and what an edit touches.
 use Rattle.std.proofs.Common.{◌≡◌, ℕ, ◌==◌, true, false, List, [], ◌∷◌, ◌++◌, map, replicate, Some, None, refl}
-use Rattle.std.specs.Prelude.{codes, encode_utf8_all}
+use Rattle.std.specs.Prelude.{codes}
 use Rattle.unicode_segmentation.proofs.Computing.{unicode_segmentation}
 use Rattle.unicode_width.proofs.Computing.{unicode_width}
 use Rattle.bx_ucd.specs.SmallTables.{small}

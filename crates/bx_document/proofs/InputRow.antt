@@ -45,8 +45,8 @@ pub copied-more : (from was now : List Drawn) (i : ℕ) (d copy : Drawn) → i <
     → (map glyph_of was ≡ map glyph_of (take i from)) × All IsWellDrawn was
     → (map glyph_of now ≡ map glyph_of (take (i + 1) from)) × All IsWellDrawn now
 copied-more from was now i d copy inside is items same drawn before = (
-      ap (map glyph_of) items ∙ map_push glyph_of was copy
-          ∙ ap₂ (λ gs g. gs ++ g ∷ []) before.0 (same ∙ ap glyph_of is)
-          ∙ sym (map_more glyph_of from i d inside),
-      subst (All IsWellDrawn) (sym items) (All-push IsWellDrawn was copy before.1 drawn),
-    )
+  ap (map glyph_of) items ∙ map_push glyph_of was copy
+      ∙ ap₂ (λ gs g. gs ++ g ∷ []) before.0 (same ∙ ap glyph_of is)
+      ∙ sym (map_more glyph_of from i d inside),
+  subst (All IsWellDrawn) (sym items) (All-push IsWellDrawn was copy before.1 drawn),
+)

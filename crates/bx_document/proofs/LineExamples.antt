@@ -1,6 +1,7 @@
 -- Indents, line ends and lines that are put over others, computed.
-use Rattle.std.proofs.Common.{◌≡◌, ℕ, true, false, List, [], ◌∷◌, chars, refl}
-use Rattle.std.specs.Prelude.{codes, encode_utf8_all}
+use Rattle.std.proofs.Common.{◌≡◌, true, false, [], ◌∷◌, refl}
+use Rattle.std.specs.Prelude.{codes}
+use Rattle.std.specs.Str.{chars}
 use Rattle.unicode_segmentation.proofs.Computing.{unicode_segmentation}
 use Rattle.unicode_width.proofs.Computing.{unicode_width}
 use Rattle.bx_common.specs.declared.base.Base.TheVariants.{Auto}
@@ -16,11 +17,11 @@ unfolding unicode_segmentation
 indents = refl
 
 -- a no-break space indents nothing
-no_other_blank : indent small (encode_utf8_all (0xa0 ∷ 0x61 ∷ [])) 3 ≡ []
+no_other_blank : indent small (0xc2 ∷ 0xa0 ∷ 0x61 ∷ []) 3 ≡ []
 unfolding unicode_segmentation
 no_other_blank = refl
 
-line_ends : ends_with_separator small (codes "ab\n") ∷ ends_with_separator small (codes "ab\r\n") ∷ ends_with_separator small (encode_utf8_all (0x61 ∷ 0x2029 ∷ []))
+line_ends : ends_with_separator small (codes "ab\n") ∷ ends_with_separator small (codes "ab\r\n") ∷ ends_with_separator small (0x61 ∷ 0xe2 ∷ 0x80 ∷ 0xa9 ∷ [])
     ∷ ends_with_separator small (codes "a\nb") ∷ ends_with_separator small [] ∷ []
     ≡ true ∷ true ∷ true ∷ false ∷ false ∷ []
 unfolding chars

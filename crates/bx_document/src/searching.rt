@@ -65,7 +65,14 @@ impl<D: BidiData + Drop> Document<D> {
         ensures found { result ≡ first_between (D.data self.now.tables) reading query.now self.now.document.content.text start stop }
         ensures boundary { IfSome result (IsCharBoundary self.now.document.content.text) }
     {
-        bx_find::first_between(&self.indexed, self.indexed.tables(), reading, query, start, stop)
+        bx_find::first_between(
+            &self.indexed,
+            self.indexed.tables(),
+            reading,
+            query,
+            start,
+            stop,
+        )
     }
 
     /// The byte offset of a query's last match before `x`. Allocates nothing.

@@ -230,6 +230,7 @@ fn direction_text(is_rtl: bool) -> &'static str
 
 /// The columns of a direction, and the blanks before the row's end.
 const DIRECTION_COLUMNS: u16 = 3;
+
 const BLANKS_BEFORE_END: u16 = 2;
 
 /// Appends blanks, a name and a direction up to the row's end, as far as they have room there: all, or the direction alone, or nothing.
@@ -355,7 +356,7 @@ impl<D: BidiData + Drop> Document<D> {
         requires some { 1 ≤ length text.now }
         ensures row { IfOk result (λ r. r.row.columns ≡ glyph_row self.now.document.w (with_some_end self.now.document.w
             (letter_glyphs text.now ++ glyphs_or (line_glyphs (D.data self.now.tables) line.now)
-                (input_line (D.data self.now.tables) self.now.document.w (length text.now) line.now place))
+            (input_line (D.data self.now.tables) self.now.document.w (length text.now) line.now place))
             (option_map (λ e. (e.name.now, e.is_rtl)) end.entry))) }
         ensures column { IfOk result (λ r. r.column
             ≡ column_shown (input_line (D.data self.now.tables) self.now.document.w (length text.now) line.now place)) }
@@ -368,7 +369,10 @@ impl<D: BidiData + Drop> Document<D> {
         let (typed, index) = text_of(self.alloc, line, tables)?;
         let text_ref = TextRef::of(&typed, &index, tables);
         let mut view = view_of(self.alloc);
-        let LineRow { picture: found, cell } = first_row(&mut view, &text_ref, place)?;
+        let LineRow {
+            picture: found,
+            cell,
+        } = first_row(&mut view, &text_ref, place)?;
         let width = self.width();
         let part = part_for(&found.glyphs, text.len(), cell, width);
         let mut picture = RowPicture::of_letters(self.alloc, text)?;

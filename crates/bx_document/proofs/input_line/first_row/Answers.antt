@@ -33,16 +33,16 @@ returns-clause-cell g c =
     let level = c.level.result in
     let left : free ≡ free_by level (columns_taken gs) =
     elim c.if-level-eq0.branch [
-      then-level-eq0 w ↦ w.free-is ∙ free-even level (columns_taken gs) w.if-level-eq0.true
-    | else-level-eq0 w ↦ w.free-is ∙ w.unwrap_or-free.ensures
-        ∙ ap (λ o. unwrap_or o 0) (w.room_behind.ensures
-        ∙ ap (λ ds. Rattle.bx_document.proofs.RoomBehind.left_of 500 (columns_taken (map glyph_of ds))) w.deref.ensures.value)
-        ∙ free-odd level (columns_taken gs) w.if-level-eq0.false
+      | then-level-eq0 w ↦ w.free-is ∙ free-even level (columns_taken gs) w.if-level-eq0.true
+      | else-level-eq0 w ↦ w.free-is ∙ w.unwrap_or-free.ensures
+          ∙ ap (λ o. unwrap_or o 0) (w.room_behind.ensures
+          ∙ ap (λ ds. Rattle.bx_document.proofs.RoomBehind.left_of 500 (columns_taken (map glyph_of ds))) w.deref.ensures.value)
+          ∙ free-odd level (columns_taken gs) w.if-level-eq0.false
     ] in
     let moved : c.match-cell.cell ≡ shifted c.in_ok-cell.cell free =
     elim c.match-cell.branch [
-      in-None v ↦ v.cell-is ∙ sym (ap (λ o. shifted o free) v.in-None.is)
-    | in-Some v ↦ v.cell-is ∙ ap Some v.saturating_sub.ensures ∙ sym (ap (λ o. shifted o free) v.in-Some.is)
+      | in-None v ↦ v.cell-is ∙ sym (ap (λ o. shifted o free) v.in-None.is)
+      | in-Some v ↦ v.cell-is ∙ ap Some v.saturating_sub.ensures ∙ sym (ap (λ o. shifted o free) v.in-Some.is)
     ] in
     let row = c.row-row.result in
     let keeps : Keeps ucd c.args.view.now c.row_at.new.self =

@@ -1,5 +1,5 @@
 -- The bytes up to `len` are blanks and tabs.
-use Rattle.std.proofs.Common.{◌≡◌, ◌+◌, ◌-◌, IsUtf8, drop, length}
+use Rattle.std.proofs.Common.{◌≡◌, ◌+◌, ◌-◌, drop, length}
 use Rattle.std.specs.List.{prefix_len}
 use Rattle.std.specs.Str.{IsCharBoundary}
 use Rattle.bx_document.specs.Line.{is_indent}

@@ -1,4 +1,4 @@
-use Rattle.std.proofs.Common.{IsUtf8, refl, sym, subst, arith}
+use Rattle.std.proofs.Common.{refl, arith}
 use Rattle.bx_text.specs.index.Paragraphs.{lengths, paragraph_of}
 use Rattle.bx_view.proofs.Numbers.{falls-at}
 use Rattle.bx_view.proofs.TextPlaces.{place-between}

@@ -1,9 +1,8 @@
-use Rattle.std.proofs.Common.{rules, ◌≡◌, ◌∙◌, ◌++◌, [], true, ap, length, slice_range, refl, subst, sym, arith}
+use Rattle.std.proofs.Common.{rules, ◌≡◌, ◌∙◌, ◌++◌, [], true, ap, slice_range, refl, subst, sym, arith}
 use Rattle.std.proofs.lemmas.Bool.Decides.{nat_tests}
 use Rattle.bx_text.specs.Edits.{fits, inserted, splice}
-use Rattle.bx_text.specs.Changes.{IsRange}
 use Rattle.bx_view.specs.Places.{IsTextPlace}
-use Rattle.bx_document.specs.Document.{place_after, place_behind_insertion}
+use Rattle.bx_document.specs.Document.{place_behind_insertion}
 use Rattle.bx_document.proofs.InsertedBefore.{before-place, before-text}
 use Rattle.bx_document.proofs.PlacesKept.{keeps_edited}
 use Rattle.bx_document.proofs.SameState.{edited, lent, state_of}
@@ -50,8 +49,7 @@ returns-clause-ok g c =
     let i = c.self-2.inside in
     let at = c.args.at in
     let new = c.args.new.now in
-    let inner : state_of i.indexed.tables i.indexed.content i.view.base i.view.w ≡ now = c.self-2.view_is ∙ c.place_after.ensures.same in
-    (
+    let inner : state_of i.indexed.tables i.indexed.content i.view.base i.view.w ≡ now = c.self-2.view_is ∙ c.place_after.ensures.same in (
       short g before,
       ap (λ o. state_of o.tables o.content i.view.base i.view.w) c.in_ok-insert.ensures.ok
           ∙ ap (λ s. state_of s.tables (inserted s.document.content at new c.args.place c.in_ok-after.after) s.document.base s.document.w) inner

@@ -1,6 +1,6 @@
-use Rattle.std.proofs.Common.{◌≡◌, ◌-◌, ◌∙◌, ◌<◌, nat_eq, ap, length, slice_range, subst, sym, refl, arith}
-use Rattle.bx_text.specs.index.Paragraphs.{lengths, paragraph_of}
-use Rattle.bx_view.specs.Numbers.{body_at, count}
+use Rattle.std.proofs.Common.{◌∙◌, nat_eq, ap, length}
+use Rattle.bx_text.specs.index.Paragraphs.{paragraph_of}
+use Rattle.bx_view.specs.Numbers.{body_at}
 use Rattle.bx_view.proofs.Numbers.{falls-at}
 use Rattle.bx_document.specs.Line.{is_line_empty}
 use Rattle.bx_document.proofs.InsertedBefore.{empty-part}
