@@ -10,3 +10,4 @@ pub mod LineLaws
 pub mod WordLaws
 pub mod StoredLaws
 pub mod RefusalLaws
+pub mod InputLaws

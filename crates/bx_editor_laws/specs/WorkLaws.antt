@@ -10,7 +10,8 @@ use Rattle.bx_rows.specs.RowPicture.{columns_used}
 use Rattle.bx_paragraph.specs.declared.slots.Slot.{Slot}
 use Rattle.bx_paragraph.specs.Slots.{covers, row_slots}
 use Rattle.bx_view.specs.declared.moves.Logical.TheVariants.{Back}
-use Rattle.bx_view.specs.Moves.{entry_in, step_logical}
+use Rattle.bx_view.specs.declared.moves.Goal.{Goal}
+use Rattle.bx_view.specs.Moves.{goal_in, goal_of, step_logical}
 use Rattle.bx_view.specs.Places.{IsTextPlace}
 use Rattle.bx_view.specs.TextRows.{TextRow, cell_of, row_at, row_of}
 use Rattle.bx_editor.specs.declared.search_state.SearchState.TheVariants.{Off}
@@ -18,6 +19,7 @@ use Rattle.bx_editor.specs.Editor.{Editor, rows, text_height}
 use Rattle.bx_editor.specs.Functions.{HasRows, after_keys}
 use Rattle.bx_editor.specs.Erasing.{point_before}
 use Rattle.bx_editor.specs.Keys.{after_key}
+use Rattle.bx_editor.specs.Scrolling.{page_rows}
 use Rattle.bx_editor.specs.Search.{sought}
 use Rattle.bx_editor.specs.Region.{is_selection}
 
@@ -80,30 +82,38 @@ pub record LineMovesLeadBack (d : Data) (e : Editor) (n : ℕ) : Type 0 where
   pub above : n ≤ row_of (rows d e) e.place
       → LeadsBack d e n (after_keys d None e (replicate n LineUp ++ replicate n LineDown))
 
--- these moves lead back so outside a search and a paste, where no column is kept
-abbrev pub LineMovesGoBack : Type 0
-LineMovesGoBack =
-    (d : Data) (e : Editor) (n : ℕ) → HasRows e → e.search_state ≡ Off → e.pasted ≡ None → e.goal ≡ None → IsTextPlace d e.content.text e.place
-    → LineMovesLeadBack d e n
+-- A move by rows or by pages is made where no search is on, no paste is under way, and the question is not whether to overwrite, which it
+-- would only end.
+pub record CanMove (d : Data) (e : Editor) : Type 0 where
+  pub rows_fit : HasRows e
+  pub unsought : e.search_state ≡ Off
+  pub settled : e.pasted ≡ None
+  pub undecided : e.prompt ≢ prompts.Overwrite
+  pub place : IsTextPlace d e.content.text e.place
 
--- `n` pages down and up again lead back, if there are as many rows below; and `n` pages up and down again, if there are as many above.
--- A page has the window's text rows.
+-- these moves lead back so where nothing is kept yet
+abbrev pub LineMovesGoBack : Type 0
+LineMovesGoBack = (d : Data) (e : Editor) (n : ℕ) → CanMove d e → e.goal ≡ None → LineMovesLeadBack d e n
+
+-- the rows of `n` pages: of a page a row stays
+abbrev pub rows_of_pages : Editor → ℕ → ℕ
+rows_of_pages e n = n * page_rows (text_height e.height)
+
+-- `n` pages down and up again lead back, if there are as many rows below; and `n` pages up and down again, if there are as many above
 pub record PageMovesLeadBack (d : Data) (e : Editor) (n : ℕ) : Type 0 where
-  pub below : row_of (rows d e) e.place + n * text_height e.height < length (rows d e)
+  pub below : row_of (rows d e) e.place + rows_of_pages e n < length (rows d e)
       → LeadsBack d e n (after_keys d None e (replicate n PageOn ++ replicate n PageBack))
-  pub above : n * text_height e.height ≤ row_of (rows d e) e.place
+  pub above : rows_of_pages e n ≤ row_of (rows d e) e.place
       → LeadsBack d e n (after_keys d None e (replicate n PageBack ++ replicate n PageOn))
 
 -- these moves lead back as those by rows do
 abbrev pub PageMovesGoBack : Type 0
-PageMovesGoBack =
-    (d : Data) (e : Editor) (n : ℕ) → HasRows e → e.search_state ≡ Off → e.pasted ≡ None → e.goal ≡ None → IsTextPlace d e.content.text e.place
-    → PageMovesLeadBack d e n
+PageMovesGoBack = (d : Data) (e : Editor) (n : ℕ) → CanMove d e → e.goal ≡ None → PageMovesLeadBack d e n
 
--- a column is kept, and the cursor is where its row is entered in that column, as after a move that keeps it
-pub record IsEntered (d : Data) (e : Editor) (column : ℕ) : Type 0 where
-  pub kept : e.goal ≡ Some column
-  pub entered : entry_in e.width (own_row d e) column ≡ Some e.place
+-- a column, or an edge of the rows, is kept, and the cursor is where its row is entered by that, as after a move that keeps it
+pub record IsEntered (d : Data) (e : Editor) (goal : Goal) : Type 0 where
+  pub kept : e.goal ≡ Some goal
+  pub entered : goal_in e.width (own_row d e) goal ≡ Some e.place
 
 -- from there all these moves lead back to the place itself
 pub record MovesReturn (d : Data) (e : Editor) (n : ℕ) : Type 0 where
@@ -111,17 +121,15 @@ pub record MovesReturn (d : Data) (e : Editor) (n : ℕ) : Type 0 where
       → (after_keys d None e (replicate n LineDown ++ replicate n LineUp)).place ≡ e.place
   pub lines_above : n ≤ row_of (rows d e) e.place
       → (after_keys d None e (replicate n LineUp ++ replicate n LineDown)).place ≡ e.place
-  pub pages_below : row_of (rows d e) e.place + n * text_height e.height < length (rows d e)
+  pub pages_below : row_of (rows d e) e.place + rows_of_pages e n < length (rows d e)
       → (after_keys d None e (replicate n PageOn ++ replicate n PageBack)).place ≡ e.place
-  pub pages_above : n * text_height e.height ≤ row_of (rows d e) e.place
+  pub pages_above : rows_of_pages e n ≤ row_of (rows d e) e.place
       → (after_keys d None e (replicate n PageBack ++ replicate n PageOn)).place ≡ e.place
 
 abbrev pub KeptMovesGoBack : Type 0
-KeptMovesGoBack =
-    (d : Data) (e : Editor) (n column : ℕ) → HasRows e → e.search_state ≡ Off → e.pasted ≡ None → IsTextPlace d e.content.text e.place
-    → IsEntered d e column → MovesReturn d e n
+KeptMovesGoBack = (d : Data) (e : Editor) (n : ℕ) (goal : Goal) → CanMove d e → IsEntered d e goal → MovesReturn d e n
 
--- the keys that keep a column
+-- the keys that keep a column, or the start of the rows
 abbrev pub keeps_column : Key → Bool
 keeps_column LineUp = true
 keeps_column LineDown = true
@@ -129,10 +137,10 @@ keeps_column PageBack = true
 keeps_column PageOn = true
 keeps_column _ = false
 
--- outside a search and a paste, with no column kept: however many of these keys follow one another, and however far there is a row for
--- them, the column that they keep is the cursor's before the first
+-- With nothing kept: however many of these keys follow one another, and however far there is a row for them, what they keep is the start of
+-- the rows if the cursor is at its row's start before the first of them, else the cursor's column.
 abbrev pub ColumnIsKept : Type 0
 ColumnIsKept =
-    (d : Data) (e : Editor) (first : Key) (keys : List Key) → e.search_state ≡ Off → e.pasted ≡ None → e.goal ≡ None
+    (d : Data) (e : Editor) (first : Key) (keys : List Key) → e.search_state ≡ Off → e.pasted ≡ None → e.prompt ≢ prompts.Overwrite → e.goal ≡ None
     → keeps_column first ≡ true → All (λ key. keeps_column key ≡ true) keys
-    → (after_keys d None e (first ∷ keys)).goal ≡ Some (cell_of e.width (rows d e) e.place)
+    → (after_keys d None e (first ∷ keys)).goal ≡ Some (goal_of e.width (rows d e) e.place)

@@ -158,7 +158,7 @@ module _ (ucd : Data) (base : Base) (w : ℕ) (side : 1 ≤ w) (text : List ℕ)
   -- ---- moves by a goal
 
   -- where a row is entered is in it
-  goal-row : (k : ℕ) (goal : Goal) (place : ℕ) → k < length rows → row_of rows (unwrap_or (goal_in w (row_at rows k) goal) place) ≡ k
+  pub goal-row : (k : ℕ) (goal : Goal) (place : ℕ) → k < length rows → row_of rows (unwrap_or (goal_in w (row_at rows k) goal) place) ≡ k
   goal-row k (Column column) place within =
       (falls-in-own ucd base w side text utf8 k (unwrap_or (entry_in w (row_at rows k) column) place) within
       (of-some (Contains (places_of (row_at rows k))) (entry_in w (row_at rows k) column) place (row-entered ucd base w side text utf8 k within column))).0
