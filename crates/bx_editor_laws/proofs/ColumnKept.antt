@@ -25,25 +25,25 @@ is-move PageBack is = (true, Up, refl)
 is-move PageOn is = (true, Down, refl)
 is-move _ is = absurd (cc is)
 
-module _ (d : Data) (e : Editor) (off : e.search_state ≡ Off) (settled : e.pasted ≡ None) (undecided : e.prompt ≢ prompts.Overwrite) (goal : Goal) where
+module _ (d : Data) (e : Editor) (off : e.search_state ≡ Off) (settled : e.pasted ≡ None) (unasked : e.prompt ≡ prompts.Off) (goal : Goal) where
   keeps : (keys : List Key) (m : Marks) (place : ℕ) → All (λ key. keeps_column key ≡ true) keys
-      → (after_keys d None (kept-at d e off settled undecided false goal m place) keys).goal ≡ Some goal
+      → (after_keys d None (kept-at d e off settled unasked false goal m place) keys).goal ≡ Some goal
   keeps [] m place all = refl
   keeps (key ∷ keys) m place all =
       let Is = λ (key : Key). keeps_column key ≡ true in
       let move = is-move key (All-head Is key keys all) in
-      let moved = key-moves d e off settled undecided move.0 goal move.1 m place in
-      ap (λ k. (after_keys d None (after_key d None (kept-at d e off settled undecided false goal m place) k) keys).goal) move.2
+      let moved = key-moves d e off settled unasked move.0 goal move.1 m place in
+      ap (λ k. (after_keys d None (after_key d None (kept-at d e off settled unasked false goal m place) k) keys).goal) move.2
       ∙ ap (λ (x : Editor). (after_keys d None x keys).goal) moved
       ∙ keeps keys (left m) (rows_away e.width (rows d e) move.1 (size move.0 e.height) goal place) (All-tail Is key keys all)
 
 pub column-is-kept : ColumnIsKept
-column-is-kept d e first keys off settled undecided none is all =
+column-is-kept d e first keys off settled unasked none is all =
     let goal = goal_of e.width (rows d e) e.place in
     let own : Marks = (e.mark, e.soft) in
     let move = is-move first is in
     let goal-after = λ (x : Editor) (key : Key). (after_keys d None x (key ∷ keys)).goal in
     ap (goal-after e) move.2
-    ∙ ap (λ (x : Editor). x.goal) (keys-from d e off settled undecided move.0 goal none refl move.1 keys)
-    ∙ ap (goal-after (kept-at d e off settled undecided false goal own e.place)) (sym move.2)
-    ∙ keeps d e off settled undecided goal (first ∷ keys) own e.place (All-cons (λ key. keeps_column key ≡ true) first keys is all)
+    ∙ ap (λ (x : Editor). x.goal) (keys-from d e off settled unasked move.0 goal none refl move.1 keys)
+    ∙ ap (goal-after (kept-at d e off settled unasked false goal own e.place)) (sym move.2)
+    ∙ keeps d e off settled unasked goal (first ∷ keys) own e.place (All-cons (λ key. keeps_column key ≡ true) first keys is all)

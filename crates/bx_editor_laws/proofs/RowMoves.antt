@@ -1,12 +1,11 @@
 -- Moves from row to row by a goal: to which rows they lead, and where they enter them.
 use Rattle.std.proofs.Common.{◌≡◌, ◌≢◌, ℕ, zero, suc, ◌+◌, ◌-◌, ◌*◌, ◌<◌, ◌≤◌, Bool, true, false, List, [], ◌∷◌, ◌++◌}
 use Rattle.std.proofs.Common.{length, replicate}
-use Rattle.std.proofs.Common.{Option, Some, None, unwrap_or, IsUtf8, refl, sym, ap, ◌∙◌, arith, ne_eqb, if◌then◌else◌}
+use Rattle.std.proofs.Common.{Option, Some, None, unwrap_or, IsUtf8, refl, sym, ap, ap₂, ◌∙◌, arith, ne_eqb, if◌then◌else◌}
 use Rattle.std.specs.Prelude.{Contains, MatchOption}
 use Rattle.bx_keys.specs.declared.key.Key.{Key}
 use Rattle.bx_keys.specs.declared.key.Key.TheVariants.{LineDown, LineUp, PageBack, PageOn}
 use Rattle.bx_ucd.specs.Data.{Data}
-use Rattle.bx_editor.specs.declared.questions.answers.Prompt.{Prompt}
 use Rattle.bx_editor.specs.declared.questions.answers.Prompt.TheVariants as prompts
 use Rattle.bx_common.specs.declared.base.Base.{Base}
 use Rattle.bx_view.specs.declared.moves.Goal.{Goal}
@@ -20,7 +19,6 @@ use Rattle.bx_view_laws.proofs.ViewRows.{goal-row}
 use Rattle.bx_editor.specs.declared.search_state.SearchState.TheVariants.{Off}
 use Rattle.bx_editor.specs.declared.cursor.Soft.{Soft}
 use Rattle.bx_editor.specs.declared.undo_groups.typing.Typing.TheVariants as typings
-use Rattle.bx_editor.specs.Asking.{without_prompt}
 use Rattle.bx_editor.specs.Before.{Before, before}
 use Rattle.bx_editor.specs.Editor.{Editor, cleared, rows, text_height}
 use Rattle.bx_editor.specs.Effects.{Refuses, by}
@@ -105,33 +103,13 @@ abbrev pub left_after : ℕ → Marks → Marks
 left_after zero m = m
 left_after (suc n) m = left_after n (left m)
 
--- a move ends a question, but the one whether to overwrite, which is all that the key does there
-moves-any : (d : Data) (was : Before) (paged : Bool) (way : Vertical) (prompt : Prompt) (e : Editor) → e.prompt ≡ prompt → prompt ≢ prompts.Overwrite
-    → after_any d None was prompt Off e (move_key paged way) ≡ after_row_move d (unselected (without_prompt e)) way (size paged e.height)
-moves-any d was false Up prompts.Off e is other = ap (λ a. after_row_move d (unselected (record e { prompt = a })) Up 1) is
-moves-any d was false Up prompts.Line e is other = refl
-moves-any d was false Up prompts.Name e is other = refl
-moves-any d was false Up prompts.Code e is other = refl
-moves-any d was false Up prompts.File e is other = refl
-moves-any d was false Up prompts.Overwrite e is other = absurd (other refl)
-moves-any d was false Down prompts.Off e is other = ap (λ a. after_row_move d (unselected (record e { prompt = a })) Down 1) is
-moves-any d was false Down prompts.Line e is other = refl
-moves-any d was false Down prompts.Name e is other = refl
-moves-any d was false Down prompts.Code e is other = refl
-moves-any d was false Down prompts.File e is other = refl
-moves-any d was false Down prompts.Overwrite e is other = absurd (other refl)
-moves-any d was true Up prompts.Off e is other = ap (λ a. after_row_move d (unselected (record e { prompt = a })) Up (page_rows (text_height e.height))) is
-moves-any d was true Up prompts.Line e is other = refl
-moves-any d was true Up prompts.Name e is other = refl
-moves-any d was true Up prompts.Code e is other = refl
-moves-any d was true Up prompts.File e is other = refl
-moves-any d was true Up prompts.Overwrite e is other = absurd (other refl)
-moves-any d was true Down prompts.Off e is other = ap (λ a. after_row_move d (unselected (record e { prompt = a })) Down (page_rows (text_height e.height))) is
-moves-any d was true Down prompts.Line e is other = refl
-moves-any d was true Down prompts.Name e is other = refl
-moves-any d was true Down prompts.Code e is other = refl
-moves-any d was true Down prompts.File e is other = refl
-moves-any d was true Down prompts.Overwrite e is other = absurd (other refl)
+-- such a key outside a search and a question
+moves-any : (d : Data) (was : Before) (paged : Bool) (way : Vertical) (e : Editor)
+    → after_any d None was prompts.Off Off e (move_key paged way) ≡ after_row_move d (unselected e) way (size paged e.height)
+moves-any d was false Up e = refl
+moves-any d was false Down e = refl
+moves-any d was true Up e = refl
+moves-any d was true Down e = refl
 
 -- nothing is left of a selection that is fresh, and of presses
 abbrev behind : Editor → Editor
@@ -155,7 +133,7 @@ not-told false Down = refl
 not-told true Up = refl
 not-told true Down = refl
 
-module _ (d : Data) (e : Editor) (off : e.search_state ≡ Off) (settled : e.pasted ≡ None) (undecided : e.prompt ≢ prompts.Overwrite)
+module _ (d : Data) (e : Editor) (off : e.search_state ≡ Off) (settled : e.pasted ≡ None) (unasked : e.prompt ≡ prompts.Off)
     (paged : Bool) (goal : Goal) where
   -- the rows of a move
   abbrev t : ℕ
@@ -167,7 +145,6 @@ module _ (d : Data) (e : Editor) (off : e.search_state ≡ Off) (settled : e.pas
     place = place;
     mark = m.0;
     soft = m.1;
-    prompt = prompts.Off;
     typing = typings.Off;
     message = None;
     quit_before = false;
@@ -177,20 +154,19 @@ module _ (d : Data) (e : Editor) (off : e.search_state ≡ Off) (settled : e.pas
   }
 
   -- where a key leads
-  key-by : (x : Editor) (way : Vertical) → x.search_state ≡ Off → x.pasted ≡ None → x.prompt ≢ prompts.Overwrite
-      → after_key d None x (move_key paged way)
-      ≡ behind (after_row_move d (unselected (without_prompt (cleared x))) way (size paged x.height))
-  key-by x way unsought none open =
+  key-by : (x : Editor) (way : Vertical) → x.search_state ≡ Off → x.pasted ≡ None → x.prompt ≡ prompts.Off
+      → after_key d None x (move_key paged way) ≡ behind (after_row_move d (unselected (cleared x)) way (size paged x.height))
+  key-by x way unsought none free =
       any-key d None x (move_key paged way) none (not-told paged way)
       ∙ ap (λ b. as_left (move_key paged way) (if b then by d None (before x) (cleared x) Refuses else
       after_any d None (before x) x.prompt x.search_state (cleared x) (move_key paged way))) (allowed paged way x)
-      ∙ ap (λ s. as_left (move_key paged way) (after_any d None (before x) x.prompt s (cleared x) (move_key paged way))) unsought
-      ∙ ap (as_left (move_key paged way)) (moves-any d (before x) paged way x.prompt (cleared x) refl open)
-      ∙ left-by paged way (after_row_move d (unselected (without_prompt (cleared x))) way (size paged x.height))
+      ∙ ap₂ (λ a s. as_left (move_key paged way) (after_any d None (before x) a s (cleared x) (move_key paged way))) free unsought
+      ∙ ap (as_left (move_key paged way)) (moves-any d (before x) paged way (cleared x))
+      ∙ left-by paged way (after_row_move d (unselected (cleared x)) way (size paged x.height))
 
   pub key-moves : (way : Vertical) (m : Marks) (place : ℕ)
       → after_key d None (kept-at m place) (move_key paged way) ≡ kept-at (left m) (rows_away e.width (rows d e) way t goal place)
-  key-moves way m place = key-by (kept-at m place) way off settled (λ is. absurd (cc is))
+  key-moves way m place = key-by (kept-at m place) way off settled unasked
 
   -- the first one keeps what the place gives
   abbrev first-at : Vertical → Option Goal → Editor
@@ -201,8 +177,7 @@ module _ (d : Data) (e : Editor) (off : e.search_state ≡ Off) (settled : e.pas
         place = rows_away e.width (rows d e) way t g e.place;
         mark = m.0;
         soft = m.1;
-        prompt = prompts.Off;
-        typing = typings.Off;
+            typing = typings.Off;
         message = None;
         quit_before = false;
         goal = Some g;
@@ -211,7 +186,7 @@ module _ (d : Data) (e : Editor) (off : e.search_state ≡ Off) (settled : e.pas
       }
 
   first-key : (way : Vertical) → after_key d None e (move_key paged way) ≡ first-at way e.goal
-  first-key way = key-by e way off settled undecided
+  first-key way = key-by e way off settled unasked
 
   -- the marks at first
   abbrev own : Marks

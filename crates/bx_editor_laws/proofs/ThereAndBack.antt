@@ -144,14 +144,14 @@ module _ (d : Data) (e : Editor) (has : HasRows e) (place : IsTextPlace d e.cont
   stays = record { to_place = λ not. refl; to_edge = λ full more. absurd (omega (arith, more)) }
 
   -- there and back, from where the goal is as if it was kept
-  module _ (off : e.search_state ≡ Off) (settled : e.pasted ≡ None) (undecided : e.prompt ≢ prompts.Overwrite) (paged : Bool) (kept : Goal)
-      (begins : Begins d e off settled undecided paged kept) where
+  module _ (off : e.search_state ≡ Off) (settled : e.pasted ≡ None) (unasked : e.prompt ≡ prompts.Off) (paged : Bool) (kept : Goal)
+      (begins : Begins d e off settled unasked paged kept) where
     -- where a row is entered
     abbrev at : ℕ → ℕ
     at j = enter d e.base e.width some e.content.text has.text kept j
 
     abbrev as-in : Marks → ℕ → Editor
-    as-in m j = at-row d e off settled undecided paged kept some has.text m j
+    as-in m j = at-row d e off settled unasked paged kept some has.text m j
 
     down-back : (m : ℕ) → k + suc m * size paged e.height < length (rows d e)
         → (after_keys d None e (replicate (suc m) (move_key paged Down) ++ replicate (suc m) (move_key paged Up))).place ≡ at k
@@ -162,9 +162,9 @@ module _ (d : Data) (e : Editor) (has : HasRows e) (place : IsTextPlace d e.cont
         let first = left_after (suc m) (e.mark, e.soft) in
         let last = left_after (suc m) first in
         ap (λ (x : Editor). x.place)
-        (there-and-back d e off settled undecided paged kept some has.text Down Up m far first last begins
-        (goes-down d e off settled undecided paged kept some has.text m k e.place (e.mark, e.soft) refl below)
-        (goes-up d e off settled undecided paged kept some has.text m far (at far) first
+        (there-and-back d e off settled unasked paged kept some has.text Down Up m far first last begins
+        (goes-down d e off settled unasked paged kept some has.text m k e.place (e.mark, e.soft) refl below)
+        (goes-up d e off settled unasked paged kept some has.text m far (at far) first
         (falls-there d e.base e.width some e.content.text has.text kept far below) (omega arith) below
         ∙ ap (as-in last) same))
 
@@ -178,62 +178,62 @@ module _ (d : Data) (e : Editor) (has : HasRows e) (place : IsTextPlace d e.cont
         let first = left_after (suc m) (e.mark, e.soft) in
         let last = left_after (suc m) first in
         ap (λ (x : Editor). x.place)
-        (there-and-back d e off settled undecided paged kept some has.text Up Down m far first last begins
-        (goes-up d e off settled undecided paged kept some has.text m k e.place (e.mark, e.soft) refl above one.row)
-        (goes-down d e off settled undecided paged kept some has.text m far (at far) first
+        (there-and-back d e off settled unasked paged kept some has.text Up Down m far first last begins
+        (goes-up d e off settled unasked paged kept some has.text m k e.place (e.mark, e.soft) refl above one.row)
+        (goes-down d e off settled unasked paged kept some has.text m far (at far) first
         (falls-there d e.base e.width some e.content.text has.text kept far within) (omega (arith, above, one.row))
         ∙ ap (as-in last) same))
 
   -- where no column is kept
-  module _ (off : e.search_state ≡ Off) (settled : e.pasted ≡ None) (undecided : e.prompt ≢ prompts.Overwrite) (none : e.goal ≡ None) (paged : Bool) where
-    begun : Begins d e off settled undecided paged goal
-    begun = keys-from d e off settled undecided paged goal none refl
+  module _ (off : e.search_state ≡ Off) (settled : e.pasted ≡ None) (unasked : e.prompt ≡ prompts.Off) (none : e.goal ≡ None) (paged : Bool) where
+    begun : Begins d e off settled unasked paged goal
+    begun = keys-from d e off settled unasked paged goal none refl
 
     down-and-up : (n : ℕ) → k + n * size paged e.height < length (rows d e)
         → LeadsBack d e n (after_keys d None e (replicate n (move_key paged Down) ++ replicate n (move_key paged Up)))
     down-and-up zero below = stays
     down-and-up (suc m) below =
         let new = after_keys d None e (replicate (suc m) (move_key paged Down) ++ replicate (suc m) (move_key paged Up)) in
-        leads-back (suc m) new (down-back off settled undecided paged goal begun m below)
+        leads-back (suc m) new (down-back off settled unasked paged goal begun m below)
 
     up-and-down : (n : ℕ) → n * size paged e.height ≤ k
         → LeadsBack d e n (after_keys d None e (replicate n (move_key paged Up) ++ replicate n (move_key paged Down)))
     up-and-down zero above = stays
     up-and-down (suc m) above =
         let new = after_keys d None e (replicate (suc m) (move_key paged Up) ++ replicate (suc m) (move_key paged Down)) in
-        leads-back (suc m) new (up-back off settled undecided paged goal begun m above)
+        leads-back (suc m) new (up-back off settled unasked paged goal begun m above)
 
   -- where one is kept, in which the place's row is entered at the place
-  module _ (off : e.search_state ≡ Off) (settled : e.pasted ≡ None) (undecided : e.prompt ≢ prompts.Overwrite) (kept : Goal) (entered : IsEntered d e kept) (paged : Bool) where
+  module _ (off : e.search_state ≡ Off) (settled : e.pasted ≡ None) (unasked : e.prompt ≡ prompts.Off) (kept : Goal) (entered : IsEntered d e kept) (paged : Bool) where
     here : enter d e.base e.width some e.content.text has.text kept k ≡ e.place
     here = ap (λ x. unwrap_or x 0) entered.entered
 
     on-and-back : (n : ℕ) → k + n * size paged e.height < length (rows d e)
         → (after_keys d None e (replicate n (move_key paged Down) ++ replicate n (move_key paged Up))).place ≡ e.place
     on-and-back zero below = refl
-    on-and-back (suc m) below = down-back off settled undecided paged kept (keys-kept d e off settled undecided paged kept entered.kept) m below ∙ here
+    on-and-back (suc m) below = down-back off settled unasked paged kept (keys-kept d e off settled unasked paged kept entered.kept) m below ∙ here
 
     back-and-on : (n : ℕ) → n * size paged e.height ≤ k
         → (after_keys d None e (replicate n (move_key paged Up) ++ replicate n (move_key paged Down))).place ≡ e.place
     back-and-on zero above = refl
-    back-and-on (suc m) above = up-back off settled undecided paged kept (keys-kept d e off settled undecided paged kept entered.kept) m above ∙ here
+    back-and-on (suc m) above = up-back off settled unasked paged kept (keys-kept d e off settled unasked paged kept entered.kept) m above ∙ here
 
 pub line-moves-go-back : LineMovesGoBack
 line-moves-go-back d e n can none = record {
-  below = λ below. down-and-up d e can.rows_fit can.place can.unsought can.settled can.undecided none false n (omega (arith, below));
-  above = λ above. up-and-down d e can.rows_fit can.place can.unsought can.settled can.undecided none false n (omega (arith, above));
+  below = λ below. down-and-up d e can.rows_fit can.place can.unsought can.settled can.unasked none false n (omega (arith, below));
+  above = λ above. up-and-down d e can.rows_fit can.place can.unsought can.settled can.unasked none false n (omega (arith, above));
 }
 
 pub page-moves-go-back : PageMovesGoBack
 page-moves-go-back d e n can none = record {
-  below = down-and-up d e can.rows_fit can.place can.unsought can.settled can.undecided none true n;
-  above = up-and-down d e can.rows_fit can.place can.unsought can.settled can.undecided none true n;
+  below = down-and-up d e can.rows_fit can.place can.unsought can.settled can.unasked none true n;
+  above = up-and-down d e can.rows_fit can.place can.unsought can.settled can.unasked none true n;
 }
 
 pub kept-moves-go-back : KeptMovesGoBack
 kept-moves-go-back d e n kept can entered = record {
-  lines_below = λ below. on-and-back d e can.rows_fit can.place can.unsought can.settled can.undecided kept entered false n (omega (arith, below));
-  lines_above = λ above. back-and-on d e can.rows_fit can.place can.unsought can.settled can.undecided kept entered false n (omega (arith, above));
-  pages_below = on-and-back d e can.rows_fit can.place can.unsought can.settled can.undecided kept entered true n;
-  pages_above = back-and-on d e can.rows_fit can.place can.unsought can.settled can.undecided kept entered true n;
+  lines_below = λ below. on-and-back d e can.rows_fit can.place can.unsought can.settled can.unasked kept entered false n (omega (arith, below));
+  lines_above = λ above. back-and-on d e can.rows_fit can.place can.unsought can.settled can.unasked kept entered false n (omega (arith, above));
+  pages_below = on-and-back d e can.rows_fit can.place can.unsought can.settled can.unasked kept entered true n;
+  pages_above = back-and-on d e can.rows_fit can.place can.unsought can.settled can.unasked kept entered true n;
 }

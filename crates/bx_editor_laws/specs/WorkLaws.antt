@@ -82,13 +82,12 @@ pub record LineMovesLeadBack (d : Data) (e : Editor) (n : ℕ) : Type 0 where
   pub above : n ≤ row_of (rows d e) e.place
       → LeadsBack d e n (after_keys d None e (replicate n LineUp ++ replicate n LineDown))
 
--- A move by rows or by pages is made where no search is on, no paste is under way, and the question is not whether to overwrite, which it
--- would only end.
+-- a move by rows or by pages is made outside a search, a question and a paste
 pub record CanMove (d : Data) (e : Editor) : Type 0 where
   pub rows_fit : HasRows e
   pub unsought : e.search_state ≡ Off
   pub settled : e.pasted ≡ None
-  pub undecided : e.prompt ≢ prompts.Overwrite
+  pub unasked : e.prompt ≡ prompts.Off
   pub place : IsTextPlace d e.content.text e.place
 
 -- these moves lead back so where nothing is kept yet
@@ -141,6 +140,6 @@ keeps_column _ = false
 -- the rows if the cursor is at its row's start before the first of them, else the cursor's column.
 abbrev pub ColumnIsKept : Type 0
 ColumnIsKept =
-    (d : Data) (e : Editor) (first : Key) (keys : List Key) → e.search_state ≡ Off → e.pasted ≡ None → e.prompt ≢ prompts.Overwrite → e.goal ≡ None
+    (d : Data) (e : Editor) (first : Key) (keys : List Key) → e.search_state ≡ Off → e.pasted ≡ None → e.prompt ≡ prompts.Off → e.goal ≡ None
     → keeps_column first ≡ true → All (λ key. keeps_column key ≡ true) keys
     → (after_keys d None e (first ∷ keys)).goal ≡ Some (goal_of e.width (rows d e) e.place)

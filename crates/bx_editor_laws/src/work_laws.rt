@@ -15,7 +15,7 @@ pub fn find_next_is_find_twice()
     ensures { FindNextIsFindTwice }
 {}
 
-/// With no column kept: LineDown `n` times and then LineUp `n` times lead back to the place, if there are `n` rows below; LineUp and then
+/// Outside a search, a question and a paste, with no column kept: LineDown `n` times and then LineUp `n` times lead back to the place, if there are `n` rows below; LineUp and then
 /// LineDown likewise, if there are `n` above. From the end of a paragraph that fills its last row they lead to the unit at the
 /// window's edge, whose column the cursor has.
 pub fn line_moves_go_back()
@@ -28,13 +28,13 @@ pub fn page_moves_go_back()
     ensures { PageMovesGoBack }
 {}
 
-/// Where a column or an edge of the rows is kept and the cursor is where its row is entered by it, as after a move that keeps it:
+/// Outside a search, a question and a paste, where a column or an edge of the rows is kept and the cursor is where its row is entered by it, as after a move that keeps it:
 /// LineDown and LineUp, or PageOn and PageBack, `n` times each, lead back to the place, if there are as many rows.
 pub fn kept_moves_go_back()
     ensures { KeptMovesGoBack }
 {}
 
-/// With no column kept: LineUp, LineDown, PageBack and PageOn keep the column that the cursor has before the first of them, or the start of
+/// Outside a search, a question and a paste, with no column kept: LineUp, LineDown, PageBack and PageOn keep the column that the cursor has before the first of them, or the start of
 /// the rows if it is at its row's start, however many follow one another, also where they meet the first or the last row.
 pub fn column_is_kept()
     ensures { ColumnIsKept }
