@@ -1,10 +1,10 @@
 -- The status row: its characters, and its place in a grid.
 use Rattle.std.proofs.Common.{◌≡◌, ℕ, ◌+◌, ◌*◌, ◌%◌, ◌^◌, ◌<◌, ◌≤◌, Bool, true, nat_le, ◌&&◌, false, List, [], ◌∷◌, ◌++◌, length, take}
-use Rattle.std.proofs.Common.{append_assoc, decimal, Option, Some, None, refl, ap, ap₂, ◌∙◌, ◌⊎◌, ⊎_elim, arith}
-use Rattle.std.specs.Prelude.{codes, if◌then◌else◌}
+use Rattle.std.proofs.Common.{decimal, Option, Some, None, refl, ap, ap₂, ◌∙◌, arith}
+use Rattle.std.specs.Prelude.{codes, if◌then◌else◌, option_map}
 use Rattle.std.proofs.lemmas.Bool.Decides.{nat_tests}
 use Rattle.std.proofs.lemmas.Fmt.{decimal_by_steps}
-use Rattle.std.proofs.lemmas.List.{append-nil, drop_all, map-append}
+use Rattle.std.proofs.lemmas.List.{append-nil, drop_all}
 use Rattle.std.proofs.lemmas.List.Folds.{list_all-append}
 use Rattle.bx_common.specs.Characters.{are_ascii_printable, is_ascii_printable}
 use Rattle.bx_common.specs.declared.base.Base.TheVariants.{Auto, Ltr, Rtl}
@@ -15,16 +15,15 @@ use Rattle.bx_store.specs.declared.cause.SaveCause.TheVariants as causes
 use Rattle.bx_ucd.specs.Data.{Data}
 use Rattle.bx_grid.specs.Columns.{Col}
 use Rattle.bx_grid.specs.Grid.{GridState}
-use Rattle.bx_rows.specs.RowPicture.{Glyph, glyph}
+use Rattle.bx_rows.specs.RowPicture.{Glyph}
 use Rattle.bx_editor.specs.declared.questions.answers.Prompt.{Prompt}
 use Rattle.bx_editor.specs.declared.questions.answers.Prompt.TheVariants as prompts
 use Rattle.bx_document.specs.Shown.{with_rows}
 use Rattle.bx_editor.specs.declared.message.Message.{Message}
 use Rattle.bx_editor.specs.declared.message.Message.TheVariants.{Saved, SaveFailed, TextFull, NothingToUndo, NothingToRedo, Unsaved, Direction, MarkSet, MarkOff}
-use Rattle.bx_editor.specs.declared.message.Message.TheVariants.{Copied, LineCopied, NothingToCopy, NothingToPut, FromStart, FromEnd, NotFound, Help}
+use Rattle.bx_editor.specs.declared.message.Message.TheVariants.{Copied, LineCopied, Cut, NothingToCopy, NothingToPut, ViewOnly, FromStart, FromEnd, NotFound, NoLetter, Help}
 use Rattle.bx_editor.specs.declared.message.Message.TheVariants.{MoreHelp, MoreThanOneLine, NoSuchCharacter, Pasting, Replaced, Told, TooLongForClipboard, Notice}
-use Rattle.bx_editor.specs.Editor.{Editor}
-use Rattle.bx_editor.specs.Status.{failed_text, letter_glyphs, message_text, notice_text, prompt_glyphs, prompt_text, shown_text, status_line, typed_glyphs}
+use Rattle.bx_editor.specs.Status.{failed_text, message_text, name_end, name_glyphs, notice_text, prompt_text, shown_text, status_line}
 
 -- ---- all its characters are from SPACE to TILDE
 
@@ -52,6 +51,7 @@ failed-printable (Some causes.OutOfMemory) = refl
 failed-printable (Some causes.Changed) = refl
 failed-printable (Some causes.NotPlain) = refl
 failed-printable (Some causes.CutOff) = refl
+failed-printable (Some causes.Exists) = refl
 failed-printable (Some causes.Other) = refl
 
 notice-printable : (notice : told.Notice) → are_ascii_printable (notice_text notice) ≡ true
@@ -79,11 +79,14 @@ message-printable MarkSet = refl
 message-printable MarkOff = refl
 message-printable Copied = refl
 message-printable LineCopied = refl
+message-printable Cut = refl
 message-printable NothingToCopy = refl
 message-printable NothingToPut = refl
+message-printable ViewOnly = refl
 message-printable FromStart = refl
 message-printable FromEnd = refl
 message-printable NotFound = refl
+message-printable NoLetter = refl
 message-printable Help = refl
 message-printable MoreHelp = refl
 message-printable MoreThanOneLine = refl
@@ -109,6 +112,10 @@ status-printable changed paragraph unit h k =
     (printable-append (decimal paragraph) behind (decimal-printable paragraph h)
     (printable-append (codes ":") (decimal unit) refl (decimal-printable unit k)))
 
+pub status-some : (changed : Bool) (paragraph unit : ℕ) (more : List ℕ) → 1 ≤ length (status_line changed paragraph unit ++ more)
+status-some true paragraph unit more = omega arith
+status-some false paragraph unit more = omega arith
+
 -- ---- a prompt behind it
 
 pub prompt-printable : (prompt : Prompt) → are_ascii_printable (prompt_text prompt) ≡ true
@@ -116,21 +123,16 @@ prompt-printable prompts.Off = refl
 prompt-printable prompts.Line = refl
 prompt-printable prompts.Name = refl
 prompt-printable prompts.Code = refl
+prompt-printable prompts.File = refl
+prompt-printable prompts.Overwrite = refl
 
-pub prompted-glyphs : (line prompt : List ℕ) (typed : List Glyph)
-    → letter_glyphs (line ++ prompt) ++ typed ≡ letter_glyphs line ++ (letter_glyphs prompt ++ typed)
-prompted-glyphs line prompt typed =
-    ap (λ gs. gs ++ typed) (map-append (λ b. glyph (b ∷ []) 1 false) line prompt)
-    ∙ append_assoc (letter_glyphs line) (letter_glyphs prompt) typed
+-- ---- the row's end
 
--- a question has its prompt, and behind it the answer as it was typed
-pub question-glyphs : (d : Data) (e : Editor) (prompt : Prompt) → (prompt ≡ prompts.Line) ⊎ ((prompt ≡ prompts.Name) ⊎ (prompt ≡ prompts.Code))
-    → prompt_glyphs d e prompt ≡ letter_glyphs (prompt_text prompt) ++ typed_glyphs e.answer
-question-glyphs d e prompts.Off some =
-    ⊎_elim (λ line. absurd (cc)) (λ other. ⊎_elim (λ name. absurd (cc)) (λ code. absurd (cc)) other) some
-question-glyphs d e prompts.Line some = refl
-question-glyphs d e prompts.Name some = refl
-question-glyphs d e prompts.Code some = refl
+-- what stands there, by the name's glyphs
+pub end-is : (d : Data) (rtl : Bool) (name : Option (List ℕ)) (drawn : Option (List Glyph)) → drawn ≡ option_map (name_glyphs d) name
+    → option_map (λ glyphs. (glyphs, rtl)) drawn ≡ name_end d rtl name
+end-is d rtl None drawn is = ap (option_map (λ glyphs. (glyphs, rtl))) is
+end-is d rtl (Some name) drawn is = ap (option_map (λ glyphs. (glyphs, rtl))) is
 
 -- ---- the columns in a grid
 

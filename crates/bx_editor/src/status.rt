@@ -1,14 +1,15 @@
 //! The status row.
-ghost use Rattle.std.specs.Prelude.{◌≡◌, true, IfOk, option_map, string_bytes};
+ghost use Rattle.std.specs.Prelude.{◌≡◌, ◌++◌, ◌≤◌, true, IfOk, IfSome, length, option_map, string_bytes};
 ghost use Rattle.bx_common.specs.Characters.{are_ascii_printable};
 ghost use Rattle.bx_editor.specs.InputLines.{input_line_of, search_line};
-ghost use Rattle.bx_editor.specs.Status.{prompt_text, prompt_words, query_prompt, search_prompt, status_line};
+ghost use Rattle.bx_editor.specs.Status.{glyph_row, left_side, name_glyphs, prompt_text, prompt_words, query_prompt, row_glyphs, search_prompt};
+ghost use Rattle.bx_editor.specs.Status.{status_line, typed_column, with_some_end};
 
 use crate::editor::Editor;
 use crate::questions::Prompt;
 use crate::search_state::{SearchPurpose, SearchState};
 use bx_common::OutOfMemory;
-use bx_document::{RowEnd, StatusRow};
+use bx_document::{DrawnName, RowEnd, StatusRow};
 use bx_ucd::BidiData;
 use itoa::Buffer;
 use std::alloc::{AllocError, Global};
@@ -124,44 +125,69 @@ impl<D: BidiData + Drop> Editor<D> {
         }
     }
 
-    /// What stands at the end of the status row, in a session with a name.
-    fn row_end(&self, is_rtl: bool) -> Option<RowEnd<'_>> {
-        match &self.drawn_name {
-            Some(name) => Some(RowEnd { name, is_rtl }),
-            None => None,
-        }
-    }
-
-    /// Lays out the name, if there is one, unless that is done.
-    fn draw_name(&mut self) -> Result<(), OutOfMemory>
+    /// Takes the glyphs of the name out, laid out if they are not yet; none in a session without a name.
+    fn take_drawn(&mut self) -> Result<Option<DrawnName>, OutOfMemory>
         ensures same { self.new ≡ self.old }
+        ensures drawn { IfOk result (λ drawn. drawn ≡ option_map (name_glyphs (D.data self.old.tables)) self.old.editor.name) }
     {
-        if self.drawn_name.is_some() {
-            return Ok(());
+        if let Some(drawn) = self.drawn_name.take() {
+            return Ok(Some(drawn));
         }
-        if let Some(name) = &self.name {
-            self.drawn_name = Some(self.document.draw_name(name.as_str())?);
+        match &self.name {
+            None => Ok(None),
+            Some(name) => Ok(Some(self.document.draw_name(name.as_str())?)),
         }
-        Ok(())
     }
 
-    /// Draws the status row: its text, then the prompt of a question or a search, with what is typed there, and at its end the name.
-    /// `is_rtl`: the paragraph is read from right to left.
-    pub(crate) fn draw_status(&mut self, line: String, is_rtl: bool) -> Result<StatusRow, OutOfMemory>
-        requires { are_ascii_printable (string_bytes line) ≡ true }
+    /// Draws a text, then the prompt of a question or a search, with what is typed there, and what stands at the row's end.
+    fn draw_prompt(&self, text: String, end: Option<RowEnd<'_>>) -> Result<StatusRow, OutOfMemory>
+        requires printable { are_ascii_printable (string_bytes text) ≡ true }
+        requires some { 1 ≤ length (string_bytes text) }
+        ensures row { IfOk result (λ r. r.row.columns ≡ glyph_row self.now.editor.width (with_some_end self.now.editor.width
+            (left_side (D.data self.now.tables) self.now.editor (string_bytes text ++ prompt_words self.now.editor self.now.editor.prompt))
+            (option_map (λ e. (e.name.now, e.is_rtl)) end.entry))) }
+        ensures column { IfOk result (λ r. r.column ≡ typed_column (D.data self.now.tables) self.now.editor
+            (string_bytes text ++ prompt_words self.now.editor self.now.editor.prompt) (input_line_of self.now.editor)) }
+        ensures inside { IfOk result (λ r. IfSome r.column (λ c. (1 ≤ c) × (c ≤ self.now.editor.width))) }
+        ensures filled { IfOk result (λ r. length r.row.columns ≡ self.now.editor.width) }
+        ensures one { IfOk result (λ r. r.row.height ≡ 1) }
+        ensures wide { IfOk result (λ r. r.row.width ≡ self.now.editor.width) }
     {
-        self.draw_name()?;
-        let mut line = line;
-        line.push_str(self.prompt_words())?;
-        let end = self.row_end(is_rtl);
-        match self.input_line() {
-            None => {
-                let row = self.document.draw_text(line.as_str(), end)?;
-                Ok(StatusRow { row, column: None })
-            }
-            Some(typed) => self
-                .document
-                .draw_input(line.as_str(), typed, self.input_cursor, end),
-        }
+        let mut text = text;
+        text.push_str(self.prompt_words())?;
+        let Some(line) = self.input_line() else {
+            let row = self.document.draw_text(text.as_str(), end)?;
+            return Ok(StatusRow { row, column: None });
+        };
+        // The proof compares the row, so it has a name.
+        let row = self
+            .document
+            .draw_input(text.as_str(), line, self.input_cursor, end)?;
+        Ok(row)
+    }
+
+    /// Draws the status row: a text, then the prompt of a question or a search, with what is typed there, and at its end the name.
+    /// `is_rtl`: the paragraph is read from right to left.
+    pub(crate) fn draw_status(&mut self, text: String, is_rtl: bool) -> Result<StatusRow, OutOfMemory>
+        requires printable { are_ascii_printable (string_bytes text) ≡ true }
+        requires some { 1 ≤ length (string_bytes text) }
+        ensures same { self.new ≡ self.old }
+        ensures row { IfOk result (λ r. r.row.columns ≡ glyph_row self.old.editor.width (row_glyphs (D.data self.old.tables) self.old.editor
+            (string_bytes text ++ prompt_words self.old.editor self.old.editor.prompt) is_rtl)) }
+        ensures column { IfOk result (λ r. r.column ≡ typed_column (D.data self.old.tables) self.old.editor
+            (string_bytes text ++ prompt_words self.old.editor self.old.editor.prompt) (input_line_of self.old.editor)) }
+        ensures inside { IfOk result (λ r. IfSome r.column (λ c. (1 ≤ c) × (c ≤ self.old.editor.width))) }
+        ensures filled { IfOk result (λ r. length r.row.columns ≡ self.old.editor.width) }
+        ensures one { IfOk result (λ r. r.row.height ≡ 1) }
+        ensures wide { IfOk result (λ r. r.row.width ≡ self.old.editor.width) }
+    {
+        let drawn = self.take_drawn()?;
+        let end = match &drawn {
+            None => None,
+            Some(name) => Some(RowEnd { name, is_rtl }),
+        };
+        let row = self.draw_prompt(text, end);
+        self.drawn_name = drawn;
+        row
     }
 }
