@@ -149,6 +149,15 @@ static bool came_out(const struct draft *draft, const struct file_stamp *seen, b
     return is_right;
 }
 
+/* Removes the draft's name, if that still leads to the draft. */
+static void remove_name(const struct draft *draft) {
+    struct stat own;
+    struct file_stamp there;
+    if (draft->file >= 0 && draft->name[0] && fstat(draft->file, &own) == 0 && stamp_at(draft->folder, draft->name, &there) &&
+        there.is_there && is_same_file(&own, &there.found))
+        unlinkat(draft->folder, draft->name, 0);
+}
+
 /* Undoes an exchange: puts back what it took from FILE's place. If another program put something newer in that place meanwhile, this
  * exchange takes that out, so it is put back in turn. Returns whether what has the draft's name at the end may be removed. */
 static bool exchange_back(const struct draft *draft, const char *name, struct stat last_in) {
@@ -163,30 +172,45 @@ static bool exchange_back(const struct draft *draft, const char *name, struct st
     return false;
 }
 
-/* Puts the draft in FILE's place by a rename, on a file system that cannot exchange files. */
-static enum placed replace_by_rename(struct draft *draft, const char *name) {
-    if (renameat(draft->folder, draft->name, draft->folder, name) != 0) return errno == EBUSY ? PLACE_MOUNTED : PLACE_FAILED;
-    draft->name[0] = 0;
-    return PLACED;
+/* Syncs the draft's folder, which is open for that. */
+static int sync_folder(const struct draft *draft, int folder) {
+    if (folder >= 0) return sync_file(folder);
+    /* a folder that the user cannot read is synced with its disk */
+    return syncfs(draft->file) == 0 ? 0 : errno;
 }
 
-enum placed draft_exchange(struct draft *draft, const char *name, const struct file_stamp *seen, bool is_listless) {
+/* Puts the draft in FILE's place by a rename, on a file system that cannot exchange files. The old file cannot be put back. */
+static enum placed replace_by_rename(struct draft *draft, const char *name, int folder) {
+    if (renameat(draft->folder, draft->name, draft->folder, name) != 0) return errno == EBUSY ? PLACE_MOUNTED : PLACE_FAILED;
+    draft->name[0] = 0;
+    errno = sync_folder(draft, folder);
+    return errno == 0 ? PLACED : PLACE_FAILED;
+}
+
+enum placed draft_exchange(struct draft *draft, const char *name, const struct file_stamp *seen, bool is_listless, int folder) {
     struct stat own;
     if (fstat(draft->file, &own) != 0) return PLACE_FAILED;
     int error = rename_by(draft->folder, draft->name, name, RENAME_EXCHANGE);
-    if (is_lacking(error)) return replace_by_rename(draft, name);
+    if (is_lacking(error)) return replace_by_rename(draft, name, folder);
     errno = error;
     if (error == ENOENT) return PLACE_OTHER;
     if (error != 0) return error == EBUSY ? PLACE_MOUNTED : PLACE_FAILED;
-    if (came_out(draft, seen, is_listless)) return PLACED;
-    if (exchange_back(draft, name, own)) unlinkat(draft->folder, draft->name, 0);
+    bool is_right = came_out(draft, seen, is_listless);
+    /* the new name is on the disk before the old file goes */
+    if (is_right) error = sync_folder(draft, folder);
+    if ((is_right && error == 0) || exchange_back(draft, name, own)) unlinkat(draft->folder, draft->name, 0);
     draft->name[0] = 0;
-    return PLACE_CHANGED;
+    errno = error;
+    return !is_right ? PLACE_CHANGED : error == 0 ? PLACED : PLACE_FAILED;
 }
 
-enum placed draft_create(struct draft *draft, const char *name) {
+enum placed draft_create(struct draft *draft, const char *name, int folder) {
     int error = draft_name_as(draft, name);
-    draft->name[0] = error == 0 ? 0 : draft->name[0];
+    if (error == 0) {
+        error = sync_folder(draft, folder);
+        if (error != 0) remove_name(draft);
+        draft->name[0] = 0;
+    }
     errno = error;
     if (error == EEXIST) return PLACE_OTHER;
     return error == 0 ? PLACED : PLACE_FAILED;
@@ -201,11 +225,7 @@ void draft_close(struct draft *draft) {
 }
 
 void draft_remove(struct draft *draft) {
-    struct stat own;
-    struct file_stamp there;
-    if (draft->file >= 0 && draft->name[0] && fstat(draft->file, &own) == 0 && stamp_at(draft->folder, draft->name, &there) &&
-        there.is_there && is_same_file(&own, &there.found))
-        unlinkat(draft->folder, draft->name, 0);
+    remove_name(draft);
     draft->name[0] = 0;
     draft_close(draft);
 }
@@ -236,7 +256,7 @@ static int keep_backup(struct save *save) {
     int backup_folder = save->saver->backup_folder, error = 0;
     if (backup_folder < 0) {
         error = name_backup(save);
-        return error == 0 ? save_sync_folder(save) : error;
+        return error == 0 ? sync_folder(&save->draft, save->folder_to_sync) : error;
     }
     if (renameat(backup_folder, BACKUP_DRAFT_NAME, backup_folder, BACKUP_NAME) != 0) return errno;
     snprintf(save->draft.name, sizeof save->draft.name, "%s", BACKUP_NAME);

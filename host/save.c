@@ -182,10 +182,6 @@ static void lock_folder(struct save *save) {
     if (save->folder_to_sync >= 0) lock_file(save->folder_to_sync, FOLDER_LOCK_TRIES, LOCK_MS);
 }
 
-int save_sync_folder(const struct save *save) {
-    return save->folder_to_sync >= 0 ? sync_file(save->folder_to_sync) : 0;
-}
-
 /* Records the draft, which is FILE now, as what was seen last. `before` is the draft before it took FILE's place: if the text has
  * changed since then, another program did that. */
 static void note_replaced(struct save *save, const struct stat *before) {
@@ -203,11 +199,19 @@ static void note_replaced(struct save *save, const struct stat *before) {
 /* Puts the draft at FILE's name. If what was there is gone meanwhile, it is created there instead. */
 static enum placed place(struct save *save) {
     struct draft *draft = &save->draft;
-    if (!save->is_there) return draft_create(draft, save->file->name);
+    if (!save->is_there) return draft_create(draft, save->file->name, save->folder_to_sync);
     errno = draft_name(draft, save->file);
     if (errno != 0) return PLACE_FAILED;
-    enum placed placed = draft_exchange(draft, save->file->name, &save->state.seen, save->is_listless);
-    return placed == PLACE_OTHER ? draft_create(draft, save->file->name) : placed;
+    enum placed placed = draft_exchange(draft, save->file->name, &save->state.seen, save->is_listless, save->folder_to_sync);
+    return placed == PLACE_OTHER ? draft_create(draft, save->file->name, save->folder_to_sync) : placed;
+}
+
+/* After a replacement that failed: what it put back counts as seen, and so does the draft where it stayed in FILE's place. */
+static void note_left(struct save *save, const struct stat *before) {
+    struct file_stamp now;
+    if (!stamp_at(save->folder, save->file->name, &now)) return;
+    if (is_taken_out(&save->state.seen, &now)) save->state.seen = now;
+    else if (now.is_there && is_same_file(&now.found, before)) note_replaced(save, before);
 }
 
 /* Replaces FILE by the draft, all or nothing. If FILE is not what was seen last, the save fails, and the next one may replace it. */
@@ -215,16 +219,16 @@ static int replace(struct save *save) {
     struct stat before;
     if (fstat(save->draft.file, &before) != 0) return cause_of(errno);
     enum placed placed = place(save);
-    if (placed == PLACE_FAILED) return cause_of(errno);
+    if (placed == PLACE_FAILED) {
+        int error = errno;
+        note_left(save, &before);
+        return cause_of(error);
+    }
     if (placed == PLACE_MOUNTED) save->state.is_overwritten_in_place = true;
     if (placed != PLACED) {
         stamp_and_note(save, save->folder);
         return SAVE_CHANGED;
     }
-    /* the new name is on the disk before the old file goes */
-    save_sync_folder(save);
-    if (save->draft.name[0]) unlinkat(save->folder, save->draft.name, 0);
-    save->draft.name[0] = 0;
     note_replaced(save, &before);
     save_drop_backup(save);
     return 0;

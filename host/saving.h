@@ -35,6 +35,7 @@ enum placed {
     PLACE_OTHER,
     /* A mount is there, which can only be overwritten in place. */
     PLACE_MOUNTED,
+    /* A call failed, and what was there has been put back as far as possible; errno has the fault. */
     PLACE_FAILED
 };
 
@@ -56,12 +57,12 @@ int draft_take_over(const struct draft *draft, const struct stat *old, bool is_p
 int draft_name(struct draft *draft, const struct file *file);
 int draft_name_as(struct draft *draft, const char *name);
 
-/* Exchanges the draft with what is at a name, which gets the draft's name, and checks that it is what was seen last. `is_listless`: it must
- * have no access list. For PLACE_FAILED, errno has the fault. */
-enum placed draft_exchange(struct draft *draft, const char *name, const struct file_stamp *seen, bool is_listless);
+/* Exchanges the draft with what is at a name, checks that this is what was seen last, and removes it once `folder`, the draft's folder or
+ * -1, is on the disk. `is_listless`: it must have no access list. */
+enum placed draft_exchange(struct draft *draft, const char *name, const struct file_stamp *seen, bool is_listless, int folder);
 
 /* Puts the draft at a name where nothing is. */
-enum placed draft_create(struct draft *draft, const char *name);
+enum placed draft_create(struct draft *draft, const char *name, int folder);
 
 /* Closes the draft, and removes its name if that still leads to the draft. */
 void draft_remove(struct draft *draft);
@@ -111,9 +112,6 @@ int save_in_place(struct save *save);
 
 /* Removes the backup, now that FILE is complete. */
 void save_drop_backup(struct save *save);
-
-/* Syncs FILE's folder; 0 or an errno. */
-int save_sync_folder(const struct save *save);
 
 /* Shows the state to the host. */
 void save_publish(const struct save *save);

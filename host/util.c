@@ -165,7 +165,7 @@ int lock_file(int file, int tries, int milliseconds) {
 }
 
 int sync_file(int file) {
-    return fsync(file) == 0 || is_lacking(errno) || errno == EROFS ? 0 : errno;
+    return fsync(file) == 0 || is_lacking(errno) ? 0 : errno;
 }
 
 bool make_letters(char *letters, size_t count, const char *alphabet) {

@@ -57,7 +57,7 @@ bool is_lacking(int error);
  * time, or an errno. */
 int lock_file(int file, int tries, int milliseconds);
 
-/* Syncs a file or folder to the disk, if its file system can. */
+/* Syncs a file or folder to the disk. Where the file system has no such call, nothing fails. */
 int sync_file(int file);
 
 /* Makes a string of so many letters of an alphabet, chosen at random so that nobody can guess them. */

@@ -142,6 +142,7 @@ WRAP(int, linkat, is_proc(from) || (is_lacking("link") && strncmp(from, "/proc/"
 WRAP(int, unlinkat, false, 0, (int folder, const char *path, int flags), (folder, path, flags))
 WRAP(int, renameat, false, 0, (int folder, const char *from, int other, const char *to), (folder, from, other, to))
 WRAP(int, fsync, is_lacking("sync") && is_folder(file), EINVAL, (int file), (file))
+WRAP(int, syncfs, false, 0, (int file), (file))
 WRAP(int, ftruncate, false, 0, (int file, off_t length), (file, length))
 WRAP(int, fchown, false, 0, (int file, uid_t owner, gid_t group), (file, owner, group))
 WRAP(int, fchmod, false, 0, (int file, mode_t mode), (file, mode))

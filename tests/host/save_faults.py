@@ -165,6 +165,27 @@ def written_while_it_is_synced(check, place):
     editor.end()
 
 
+@needs("strace")
+def failing_syncs(check, place):
+    """A save whose sync fails is told as failed, by any error; the next one, in which it fails again, does not take FILE for another's."""
+    # of the new file and its folder; of the backup, its folder and FILE
+    for words, syncs in ((), 2), (("--backup", f"{place.folder}/own"), 3):
+        os.makedirs(f"{place.folder}/own", exist_ok=True)
+        before = sorted(os.listdir(place.folder))
+        for at in range(1, syncs + 1):
+            for error, cause in ("EIO", "disk error"), ("EROFS", "read-only disk"), ("ENOSPC", "no space"):
+                write(place.note, "old\n")
+                under = ["strace", "-f", "-qq", "-o", "/dev/null", "-e", "trace=fsync", "-e", f"inject=fsync:error={error}:when={at}"]
+                editor = open_file(place.note, *words, under=under)
+                what = f"with {error} at sync {at} of {syncs}"
+                check.same(f"the save {what}", editor.save("new\n"), cause)
+                if at < 3:
+                    check.same(f"FILE {what}", read(place.note), "old\n")
+                    check.same(f"what is there {what}", sorted({*os.listdir(place.folder)} - {"note"}), [name for name in before if name != "note"])
+                check.same(f"the next save {what}", editor.save("newer\n"), cause)
+                editor.end()
+
+
 # ---- rights
 
 def rights_of_other(path):
@@ -286,7 +307,9 @@ CASES = [
     list_amid_save, default_list, default_list_amid_save, draft_is_closed, ten_names, *save_paths.CASES,
 ]
 # of saves into FILE itself, and of the opening, which the old program leaves to others
-NEW_CASES = [written_after_the_exchange, written_before_it_is_opened, written_while_it_is_synced, *save_paths.NEW_CASES]
+NEW_CASES = [
+    written_after_the_exchange, written_before_it_is_opened, written_while_it_is_synced, failing_syncs, *save_paths.NEW_CASES,
+]
 
 
 def main():
