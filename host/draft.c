@@ -15,8 +15,9 @@
 #include "save_judge.h"
 #include "util.h"
 
-/* BUFFER: bytes that are collected for one write. DRAFT_TRIES: how many random names to try, and how many exchanges to undo. */
-enum { BUFFER = 262144, DRAFT_TRIES = 20 };
+/* BUFFER: bytes that are collected for one write. DRAFT_TRIES: how many random names to try, and how many exchanges to undo. LOCK_TRIES: how
+ * often to wait LOCK_MS for a lock. */
+enum { BUFFER = 262144, DRAFT_TRIES = 20, LOCK_TRIES = 500, LOCK_MS = 10 };
 
 static unsigned char buffer[BUFFER];
 
@@ -267,7 +268,12 @@ static int keep_backup(struct save *save) {
     return error;
 }
 
-/* Opens FILE for writing, if it is the file that was seen last. Otherwise returns -1 and the cause. */
+int save_lock(int file) {
+    int error = lock_file(file, LOCK_TRIES, LOCK_MS);
+    return is_lacking(error) ? 0 : error;
+}
+
+/* Opens FILE for writing and locks it, if it is the file that was seen last. Otherwise returns -1 and the cause. */
 static int open_to_write(const struct save *save, int *cause) {
     struct stat found;
     int file = openat(save->folder, save->file->name, O_WRONLY | O_NOFOLLOW | O_NONBLOCK | O_CLOEXEC | O_NOCTTY);
@@ -275,8 +281,9 @@ static int open_to_write(const struct save *save, int *cause) {
         *cause = errno == ELOOP || errno == ENXIO || errno == ENOENT ? SAVE_CHANGED : cause_of(errno);
         return -1;
     }
-    if (fstat(file, &found) == 0 && is_unchanged(&save->state.seen.found, &found)) return file;
-    *cause = SAVE_CHANGED;
+    *cause = cause_of(save_lock(file));
+    if (*cause == 0 && fstat(file, &found) == 0 && is_unchanged(&save->state.seen.found, &found)) return file;
+    if (*cause == 0) *cause = SAVE_CHANGED;
     close(file);
     return -1;
 }

@@ -15,10 +15,6 @@
 #include "save_judge.h"
 #include "util.h"
 
-/* FOLDER_LOCK_TRIES: how often to wait LOCK_MS for another save into the folder. Then the save goes on without the lock, since some
- * file systems and programs never release it. */
-enum { FOLDER_LOCK_TRIES = 50, LOCK_MS = 10 };
-
 /* ---- FILE and its folder, as they are now */
 
 /* Takes what is at FILE's name for what was seen last. Only a plain file is also noted as the one whose owner and mode a new file gets. */
@@ -176,10 +172,12 @@ static int save_begin(struct save *save) {
 
 /* ---- a new file in FILE's place */
 
-/* Opens the folder for syncing, and locks it against other saves of the editor as long as the child lives. */
-static void lock_folder(struct save *save) {
+/* Opens the folder for syncing, and locks it against other saves of the editor as long as the child lives. A folder that the user cannot
+ * read is not locked: there an exchange finds another save by what comes out, and a save in place locks FILE itself. */
+static int lock_folder(struct save *save) {
     save->folder_to_sync = openat(save->folder, ".", O_RDONLY | O_DIRECTORY | O_CLOEXEC);
-    if (save->folder_to_sync >= 0) lock_file(save->folder_to_sync, FOLDER_LOCK_TRIES, LOCK_MS);
+    if (save->folder_to_sync < 0) return errno == EACCES ? 0 : errno;
+    return save_lock(save->folder_to_sync);
 }
 
 /* Records the draft, which is FILE now, as what was seen last. `before` is the draft before it took FILE's place: if the text has
@@ -248,8 +246,8 @@ static int complete(struct save *save) {
 static int save_commit(struct save *save) {
     bool was_there = save->is_there;
     int error = complete(save);
+    if (error == 0) error = lock_folder(save);
     if (error != 0) return cause_of(error);
-    lock_folder(save);
     int itself, cause = stamp_now(save, &itself);
     close_one(&itself);
     if (cause == 0) cause = check_place(save);

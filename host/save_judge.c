@@ -95,7 +95,8 @@ int cause_of(int error) {
     case ENOSPC:
     case EDQUOT: return SAVE_NO_SPACE;
     case EPERM:
-    case EACCES: return SAVE_NOT_PERMITTED;
+    case EACCES:
+    case EWOULDBLOCK: return SAVE_NOT_PERMITTED;
     case ENOENT:
     case ENOTDIR: return SAVE_FOLDER_GONE;
     case EROFS: return SAVE_READ_ONLY;

@@ -107,6 +107,10 @@ struct save {
     bool is_there, is_in_place, is_listless;
 };
 
+/* Locks an open file or folder against other saves of the editor, for which it waits some seconds; 0 or an errno. What is not locked is not
+ * written, unless the file system has no locks at all. */
+int save_lock(int file);
+
 /* Makes the draft the backup, and overwrites FILE in place with its text. */
 int save_in_place(struct save *save);
 

@@ -154,7 +154,7 @@ WRAP(ssize_t, listxattr, is_lacking("lists") || is_proc(path), is_proc(path) ? E
 WRAP(int, faccessat, is_proc(path), ENOENT, (int folder, const char *path, int how, int flags), (folder, path, how, flags))
 WRAP(int, fstatvfs, false, 0, (int file, struct statvfs *found), (file, found))
 WRAP(int, fstatfs, false, 0, (int file, struct statfs *found), (file, found))
-WRAP(int, flock, is_lacking("lock"), ENOLCK, (int file, int how), (file, how))
+WRAP(int, flock, is_lacking("lock"), ENOSYS, (int file, int how), (file, how))
 WRAP(off_t, lseek, false, 0, (int file, off_t at, int from), (file, at, from))
 WRAP(ssize_t, readlink, is_proc(path), ENOENT, (const char *path, char *room, size_t size), (path, room, size))
 WRAP(ssize_t, getrandom, false, 0, (void *room, size_t size, unsigned flags), (room, size, flags))

@@ -5,10 +5,12 @@ DRIVER is save_driver, built from save_driver.c, which plays the program's side 
 saves by itself, and DATA is the folder of Unicode's tables: most checks fail there. Some checks need root, strace, setfacl or mount,
 and are left out without. CHECKS in the environment names the ones to be run. Exit status 1: one failed.
 """
+import fcntl
 import os
 import shutil
 import subprocess
 import sys
+import tempfile
 
 import save_paths
 from checks import Report, needs, try_case
@@ -165,6 +167,58 @@ def written_while_it_is_synced(check, place):
     editor.end()
 
 
+def save_both(check, place, first, second):
+    """Two editors that have opened FILE save, while the first one's ftruncate is late: one has saved, and the other says that FILE changed."""
+    first.start_save("first\n")
+    wait_until_late(first.process)
+    said = {"second\n": second.save("second\n"), "first\n": first.end_save()}
+    check.same("what is said", sorted(said.values()), ["file changed on disk", "saved"])
+    check.same("what is said of FILE's text", said.get(read(place.note)), "saved")
+    first.end()
+    second.end()
+
+
+@needs("strace")
+def both_save_in_place(check, place):
+    """Two editors overwrite FILE at the same time."""
+    write(place.note, "old\n")
+    for way in "--backup", "--itself":
+        owns = [tempfile.mkdtemp(dir=place.folder) for _ in range(2)] if way == "--backup" else [None, None]
+        editors = [open_file(place.note, way, *([own] if own else []), under=slow("ftruncate", 3) if at == 0 else ()) for at, own in enumerate(owns)]
+        save_both(check, place, *editors)
+
+
+@needs("root", "strace")
+def both_save_where_no_folder_is_read(check, place):
+    """The same in a folder that they cannot read, and so cannot lock."""
+    write(place.note, "old\n", 0o666)
+    os.mkdir(f"{place.folder}/owns", 0o777)
+    os.chmod(f"{place.folder}/owns", 0o777)
+    other = ["setpriv", "--reuid", str(OTHER), "--regid", str(OTHER), "--clear-groups"]
+    owns = [tempfile.mkdtemp(dir=f"{place.folder}/owns") for _ in range(2)]
+    for own in owns:
+        os.chown(own, OTHER, OTHER)
+    os.chmod(place.folder, 0o711)
+    first = open_file(place.note, "--backup", owns[0], under=slow("ftruncate", 3, *other))
+    save_both(check, place, first, open_file(place.note, "--backup", owns[1], under=other))
+
+
+def locked_by_another(check, place):
+    """Another program keeps FILE or its folder locked: nothing is written until it does not."""
+    for way in (), ("--itself",):
+        write(place.note, "old\n")
+        editor = open_file(place.note, *way)
+        lock = os.open(place.note if way else place.folder, os.O_RDONLY)
+        fcntl.flock(lock, fcntl.LOCK_EX)
+        check.same("the save", editor.save("new\n"), "not permitted")
+        check.same("FILE", read(place.note), "old\n")
+        check.same("what is there", os.listdir(place.folder), ["note"])
+        os.close(lock)
+        check.same("the next save", editor.save("new\n"), "saved")
+        check.same("FILE after it", read(place.note), "new\n")
+        editor.end()
+
+
 @needs("strace")
 def failing_syncs(check, place):
     """A save whose sync fails is told as failed, by any error; the next one, in which it fails again, does not take FILE for another's."""
@@ -308,7 +362,8 @@ CASES = [
 ]
 # of saves into FILE itself, and of the opening, which the old program leaves to others
 NEW_CASES = [
-    written_after_the_exchange, written_before_it_is_opened, written_while_it_is_synced, failing_syncs, *save_paths.NEW_CASES,
+    written_after_the_exchange, written_before_it_is_opened, written_while_it_is_synced, both_save_in_place, both_save_where_no_folder_is_read,
+    locked_by_another, failing_syncs, *save_paths.NEW_CASES,
 ]
 
 

@@ -219,7 +219,7 @@ def failing(check, scene, number, call, error):
     else:
         # a rename cannot be undone
         scene.check_whole(check, "told", call in SYNCS and "exchange" in scene.lacks)
-    check.same("whether a sync that fails is told", call in SYNCS and answers == ["saved"], False)
+    check.same("whether a sync or lock that fails is told", call in (*SYNCS, "flock") and answers == ["saved"], False)
     if scene.way == "itself" and scene.state() != scene.before() and answers != ["saved"]:
         check.same("the cause", answers, ["file cut off"])
     # what cannot be removed stays
