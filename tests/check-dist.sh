@@ -1,8 +1,8 @@
 #!/bin/sh
 # check-dist.sh [NAME..]: checks how dist/ is made, unpacked and compared, in a small repository with a stand-in for rt and programs
 # that are scripts: starts from dist/, changed sources, archives and sums, two starts at once, checkouts that cannot be written, full
-# disks, no compiler, other machines, installing, and what scripts/prove.sh tells. A NAME selects the checks whose names begin with
-# it. It needs cc and takes half a minute. The last line has the totals. Exit status 1: a check failed.
+# disks, no compiler, other machines, installing, and what scripts/prove.sh tells. It also checks that the host in dist/ is of the
+# sources in host/. A NAME selects the checks of that name. It needs cc and takes half a minute. The last line has the totals. Exit status 1: a check failed.
 set -u
 
 here=$(CDPATH='' cd -- "$(dirname -- "$0")" && pwd)
@@ -38,10 +38,17 @@ run() { # NAME FUNCTION
     "$2" "$1"
 }
 
+# The repository's own dist/, whose host is for machines without a compiler: a change of host/ makes it anew, without a proof.
+check_own() { # NAME
+    same "$1 dist/, its host is of the sources in host/ (tools/make-dist.sh makes it anew)" "$(noted host)" "$(host_digest)"
+}
+
 wanted=$*
 make_tools
 make_repository
 run making check_making
+run host check_host_alone
+run own check_own
 run start check_start
 run sources check_sources
 run sums check_sums

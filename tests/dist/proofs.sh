@@ -19,6 +19,19 @@ check_found() { # NAME
     same "$1, a changed proof: rt is asked" "$(cat "$TOLD/calls")" run
     same "$1, a program that dist/ has not" "$(found unused)" ''
     same "$1, a program that dist/ has not: rt is asked" "$(cat "$TOLD/calls")" run
+    fresh_tree
+    check_measuring "$1"
+}
+
+# The scripts that measure other editors too take the ready programs. Here they go no further, since there is no Python.
+check_measuring() { # NAME
+    make_path python3
+    for script in compare-editors time-pastes; do
+        same "$1, $script.sh" "$(PATH=$folder/path sh "$tree/tools/$script.sh" 2>&1)" 'skipped: there is no python3'
+    done
+    echo '// more' >>"$tree/crates/low/src/main.rt"
+    same "$1, of changed sources" "$(PATH=$folder/path sh "$tree/tools/time-pastes.sh" 2>&1)" \
+        'skipped: the program is not built, and the sources are not those that dist/ was built from (./bidi-edit FILE builds it)'
 }
 
 check_installing() { # NAME
@@ -32,12 +45,17 @@ check_installing() { # NAME
     check_installing_built "$1"
 }
 
-# Installs what is built in crates/, with a toolchain that cannot be run, whose version was noted at the build or was not.
-check_installing_built() { # NAME
-    build_all
+# Makes a folder with a toolchain that cannot be run.
+make_broken_kit() {
     mkdir -p "$folder/none"
     printf '#!/bin/sh\nexit 1\n' >"$folder/none/rt"
     chmod +x "$folder/none/rt"
+}
+
+# Installs what is built in crates/, with a toolchain that cannot be run, whose version was noted at the build or was not.
+check_installing_built() { # NAME
+    build_all
+    make_broken_kit
     for note in '' 'a noted toolchain'; do
         [ -z "$note" ] || echo "$note" >"$tree/crates/bidi_edit/out/kit"
         (cd "$tree" && PATH=$folder/none:$PATH sh tools/install.sh "$folder/built") >"$folder/said" 2>&1

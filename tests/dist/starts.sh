@@ -7,10 +7,9 @@ make_dist() {
     status=$?
 }
 
-# make-dist.sh takes only programs that are proved and built from the sources as they stand.
+# make-dist.sh takes programs that are proved and built from the sources as they stand, here or in dist/.
 check_making() { # NAME
-    make_dist
-    same "$1, nothing is built" "$status $(cat "$folder/said")" '1 make-dist.sh: bidi_edit is not built: scripts/prove.sh proves and builds all'
+    check_making_again "$1"
     build_all
     make_dist
     cmp "$tree/dist/bidi-edit-x86_64-linux.tar.gz" "$folder/first/dist/bidi-edit-x86_64-linux.tar.gz" >>"$folder/said" 2>&1
@@ -19,13 +18,48 @@ check_making() { # NAME
     echo '// more' >>"$tree/crates/low/proofs/deep/Proof.antt"
     make_dist
     same "$1, a newer source" "$status $(cat "$folder/said")" \
-        '1 make-dist.sh: bidi_edit is not proved and built from these sources: scripts/prove.sh proves and builds all'
+        "1 make-dist.sh: bidi_edit is not proved and built from these sources, and $other_sources"
     touch "$tree"/crates/*/out/*.stamp
     echo 'echo other' >>"$tree/crates/bidi_print/out/bidi_print"
     make_dist
     same "$1, a program that is not that of its stamp" "$status $(cat "$folder/said")" \
-        '1 make-dist.sh: bidi_print is not proved and built from these sources: scripts/prove.sh proves and builds all'
+        "1 make-dist.sh: bidi_print is not proved and built from these sources, and $other_sources"
     same "$1, dist/ is as it was" "$(diff -r "$tree/dist" "$folder/first/dist")" ''
+}
+
+# Where nothing is built, it takes the programs of dist/ again, without the toolchain, if they are of these sources.
+check_making_again() { # NAME
+    other_sources='the sources are not those that dist/ was built from: scripts/prove.sh proves and builds all'
+    make_dist
+    same "$1, nothing is built" "$status $(diff -r "$tree/dist" "$folder/first/dist")" '0 '
+    rm "$tree/crates/low/proofs/deep/Proof.antt"
+    make_dist
+    same "$1, nothing is built, and a changed source" "$status $(cat "$folder/said")" "1 make-dist.sh: bidi_edit is not built, and $other_sources"
+    cp "$folder/first/crates/low/proofs/deep/Proof.antt" "$tree/crates/low/proofs/deep/"
+    change_byte bidi-edit-x86_64-linux.tar.gz
+    make_dist
+    same "$1, nothing is built, and another archive" "$status $(cat "$folder/said")" \
+        '1 make-dist.sh: bidi_edit is not built, and dist/bidi-edit-x86_64-linux.tar.gz does not match its checksum in dist/SHA256SUMS: scripts/prove.sh proves and builds all'
+    rm -r "$tree/dist"
+    make_dist
+    same "$1, nothing is built, and no dist/" "$status $(cat "$folder/said")" '1 make-dist.sh: bidi_edit is not built: scripts/prove.sh proves and builds all'
+    fresh_tree
+}
+
+# After a change of the host alone, dist/ is made of the new host and the old programs, in a checkout where nothing is built, with a
+# toolchain that cannot be run, and a start without a compiler runs the new host.
+check_host_alone() { # NAME
+    make_host_source "$tree/host/main.c" other
+    make_broken_kit
+    (cd "$tree" && PATH=$folder/none:$PATH sh tools/make-dist.sh) >"$folder/said" 2>&1
+    same "$1, status" "$? $(grep -c make-dist "$folder/said")" '0 0'
+    same "$1, its programs" "$(grep -v '^host ' "$tree/dist/SOURCES")" "$(grep -v '^host ' "$folder/first/dist/SOURCES")"
+    same "$1, another digest" "$(cmp -s "$tree/dist/SOURCES" "$folder/first/dist/SOURCES" || echo another)" another
+    make_path cc
+    start PATH="$folder/path"
+    same "$1, a start without a compiler" "$status $(paste -s -d '|' "$folder/said")" '0 other note|bidi_edit runs'
+    prove
+    same "$1, prove.sh finds dist/ right" "$status $(cat "$folder/said")" '0 22 passed, 0 failed'
 }
 
 # Prints the times of the tables that were unpacked, by which a session knows them.
