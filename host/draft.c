@@ -274,16 +274,16 @@ int save_lock(int file) {
 }
 
 /* Opens FILE for writing and locks it, if it is the file that was seen last. Otherwise returns -1 and the cause. */
-static int open_to_write(const struct save *save, int *cause) {
+static int open_to_write(const struct save *save, enum cause *cause) {
     struct stat found;
     int file = openat(save->folder, save->file->name, O_WRONLY | O_NOFOLLOW | O_NONBLOCK | O_CLOEXEC | O_NOCTTY);
     if (file < 0) {
-        *cause = errno == ELOOP || errno == ENXIO || errno == ENOENT ? SAVE_CHANGED : cause_of(errno);
+        *cause = errno == ELOOP || errno == ENXIO || errno == ENOENT ? CAUSE_CHANGED : cause_of(errno);
         return -1;
     }
     *cause = cause_of(save_lock(file));
     if (*cause == 0 && fstat(file, &found) == 0 && is_unchanged(&save->state.seen.found, &found)) return file;
-    if (*cause == 0) *cause = SAVE_CHANGED;
+    if (*cause == 0) *cause = CAUSE_CHANGED;
     close(file);
     return -1;
 }
@@ -312,9 +312,10 @@ static bool is_written_over(const struct save *save) {
     return fstat(save->draft.file, &draft) != 0 || draft.st_size != save->state.seen.found.st_size;
 }
 
-int save_in_place(struct save *save) {
+enum cause save_in_place(struct save *save) {
     struct state *state = &save->state;
-    int cause = 0, error = keep_backup(save);
+    enum cause cause = CAUSE_NONE;
+    int error = keep_backup(save);
     if (error != 0) return cause_of(error);
     int file = open_to_write(save, &cause);
     if (file < 0) return cause;

@@ -25,23 +25,9 @@ enum frame_letter {
     FRAME_BEGIN = 'B',
     FRAME_PIECE = 'P',
     FRAME_COMMIT = 'C',
-    /* The host's answers: done; failed, with one byte of enum save_cause. */
+    /* The host's answers: done; failed, with one byte of enum cause. */
     FRAME_DONE = 'k',
     FRAME_FAILED = 'x',
-};
-
-/* Why a save failed, in the order of bx_store. */
-enum save_cause {
-    SAVE_NO_SPACE = 1,
-    SAVE_NOT_PERMITTED,
-    SAVE_FOLDER_GONE,
-    SAVE_READ_ONLY,
-    SAVE_TOO_LARGE,
-    SAVE_OUT_OF_MEMORY,
-    SAVE_CHANGED,
-    SAVE_NOT_PLAIN,
-    SAVE_CUT_OFF,
-    SAVE_OTHER,
 };
 
 /* What the program shows in its last row, by number. NOTICE_NONE shows nothing, but like all input it makes the program try its journal

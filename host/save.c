@@ -36,15 +36,15 @@ static void stamp_and_note(struct save *save, int folder) {
 
 /* Looks at FILE's name, and opens what is there. Returns 0, or the cause why the save must not go on. Sets `is_there`: FILE exists,
  * and is as it was last seen. */
-static int stamp_now(struct save *save, int *itself) {
+static enum cause stamp_now(struct save *save, int *itself) {
     struct file_stamp now;
     if (!stamp_and_open(save->folder, save->file->name, &now, itself)) return cause_of(errno);
     enum stamp_verdict verdict = judge_stamp(&save->state.seen, &now, save->state.is_assumed_changed);
     save->is_there = verdict == STAMP_SAME;
-    if (verdict == STAMP_NOT_PLAIN) return SAVE_NOT_PLAIN;
+    if (verdict == STAMP_NOT_PLAIN) return CAUSE_NOT_PLAIN;
     if (verdict != STAMP_CHANGED) return 0;
     note(save, &now, *itself);
-    return SAVE_CHANGED;
+    return CAUSE_CHANGED;
 }
 
 /* Whether an open folder is this one. */
@@ -82,15 +82,15 @@ static bool find_folder_again(struct save *save) {
 }
 
 /* Decides which folder the save goes to: the one that was opened, unless it was created again since. */
-static int settle_folder(struct save *save) {
+static enum cause settle_folder(struct save *save) {
     save->folder = save->file->folder;
-    if (save->file->is_lost) return SAVE_FOLDER_GONE;
+    if (save->file->is_lost) return CAUSE_FOLDER_GONE;
     if (!save->state.is_moved) return 0;
     int folder = open_folder_path(save);
     if (folder < 0) return cause_of(errno);
     if (is_folder_at(folder, save->state.device, save->state.inode)) save->folder = folder;
     else if (is_folder_at(folder, save->file->folder_id.device, save->file->folder_id.inode)) save->state.is_moved = false;
-    else if (!adopt(save, folder)) return SAVE_FOLDER_GONE;
+    else if (!adopt(save, folder)) return CAUSE_FOLDER_GONE;
     return 0;
 }
 
@@ -105,17 +105,17 @@ static bool leads_elsewhere(struct save *save) {
 }
 
 /* Checks that the folder's path still leads to it. If a new folder is there, this save fails, and the next one goes to the new folder. */
-static int check_place(struct save *save) {
+static enum cause check_place(struct save *save) {
     struct stat own, there;
-    if (leads_elsewhere(save)) return SAVE_CHANGED;
+    if (leads_elsewhere(save)) return CAUSE_CHANGED;
     if (!save->file->is_at_path && !save->state.is_moved) return 0;
     int folder = open_folder_path(save);
-    if (folder < 0) return errno == ENOENT || errno == ENOTDIR || errno == ELOOP ? SAVE_FOLDER_GONE : 0;
+    if (folder < 0) return errno == ENOENT || errno == ENOTDIR || errno == ELOOP ? CAUSE_FOLDER_GONE : 0;
     bool is_same = fstat(folder, &there) == 0 && fstat(save->folder, &own) == 0 && is_same_file(&there, &own);
     bool is_new = !is_same && adopt(save, folder);
     if (is_new) stamp_and_note(save, folder);
     else close(folder);
-    return is_same ? 0 : is_new ? SAVE_CHANGED : SAVE_FOLDER_GONE;
+    return is_same ? 0 : is_new ? CAUSE_CHANGED : CAUSE_FOLDER_GONE;
 }
 
 /* ---- the beginning */
@@ -130,7 +130,7 @@ static enum reason find_reason(struct save *save, int itself) {
 }
 
 /* Decides whether this save overwrites FILE. Returns 0, or the cause for which it cannot be made at all. */
-static int settle_way(struct save *save, int itself) {
+static enum cause settle_way(struct save *save, int itself) {
     const struct saver *saver = save->saver;
     save->is_in_place = save->is_listless = false;
     if (!save->is_there || !S_ISREG(save->state.seen.found.st_mode)) return 0;
@@ -138,7 +138,7 @@ static int settle_way(struct save *save, int itself) {
     bool is_itself = save->state.is_overwritten_in_place || (saver->is_itself && !save->state.is_replaced);
     save->is_in_place = saver->backup_folder >= 0 || is_itself || reason != NO_REASON;
     /* without a session there is no place for a backup, since nothing can be created beside FILE */
-    return reason == REASON_PROTECTED && saver->backup_folder < 0 ? SAVE_NOT_PERMITTED : 0;
+    return reason == REASON_PROTECTED && saver->backup_folder < 0 ? CAUSE_NOT_PERMITTED : 0;
 }
 
 /* Opens the draft. A FILE that did not exist gets the usual mode, reduced by the user's umask. */
@@ -154,19 +154,20 @@ static int open_draft(struct save *save) {
 }
 
 /* Begins a save in the folder that is open: looks at FILE, decides the way, and opens the draft. */
-static int begin_here(struct save *save) {
-    int itself, cause = stamp_now(save, &itself);
+static enum cause begin_here(struct save *save) {
+    int itself;
+    enum cause cause = stamp_now(save, &itself);
     if (cause == 0) cause = settle_way(save, itself);
     close_one(&itself);
-    return cause == 0 ? cause_of(open_draft(save)) : cause;
+    return cause == CAUSE_NONE ? cause_of(open_draft(save)) : cause;
 }
 
 /* Decides where a save goes, and opens its draft. */
-static int save_begin(struct save *save) {
+static enum cause save_begin(struct save *save) {
     draft_remove(&save->draft);
-    int cause = settle_folder(save);
+    enum cause cause = settle_folder(save);
     if (cause == 0) cause = begin_here(save);
-    if (cause == SAVE_FOLDER_GONE && !save->file->is_lost && find_folder_again(save)) cause = begin_here(save);
+    if (cause == CAUSE_FOLDER_GONE && !save->file->is_lost && find_folder_again(save)) cause = begin_here(save);
     return cause;
 }
 
@@ -213,7 +214,7 @@ static void note_left(struct save *save, const struct stat *before) {
 }
 
 /* Replaces FILE by the draft, all or nothing. If FILE is not what was seen last, the save fails, and the next one may replace it. */
-static int replace(struct save *save) {
+static enum cause replace(struct save *save) {
     struct stat before;
     if (fstat(save->draft.file, &before) != 0) return cause_of(errno);
     enum placed placed = place(save);
@@ -225,7 +226,7 @@ static int replace(struct save *save) {
     if (placed == PLACE_MOUNTED) save->state.is_overwritten_in_place = true;
     if (placed != PLACED) {
         stamp_and_note(save, save->folder);
-        return SAVE_CHANGED;
+        return CAUSE_CHANGED;
     }
     note_replaced(save, &before);
     save_drop_backup(save);
@@ -243,21 +244,22 @@ static int complete(struct save *save) {
 }
 
 /* FILE has the draft's text, and the text is on the disk. */
-static int save_commit(struct save *save) {
+static enum cause save_commit(struct save *save) {
     bool was_there = save->is_there;
     int error = complete(save);
     if (error == 0) error = lock_folder(save);
     if (error != 0) return cause_of(error);
-    int itself, cause = stamp_now(save, &itself);
+    int itself;
+    enum cause cause = stamp_now(save, &itself);
     close_one(&itself);
     if (cause == 0) cause = check_place(save);
     if (cause != 0) return cause;
     /* FILE was created or removed meanwhile: how to save it is decided when the next save begins */
-    if (save->is_there != was_there && (save->is_there || save->is_in_place)) return SAVE_CHANGED;
+    if (save->is_there != was_there && (save->is_there || save->is_in_place)) return CAUSE_CHANGED;
     if (!save->is_in_place) return replace(save);
     cause = save_in_place(save);
     /* FILE was changed after the look at it: it is told once */
-    if (cause == SAVE_CHANGED) stamp_and_note(save, save->folder);
+    if (cause == CAUSE_CHANGED) stamp_and_note(save, save->folder);
     return cause;
 }
 
@@ -286,8 +288,8 @@ void save_publish(const struct save *save) {
 /* ---- the child serves a save */
 
 /* The cause to report: while FILE is torn and its backup is beside it, the user must know that first. */
-static int cause_to_tell(const struct save *save, int cause) {
-    return cause != 0 && save->state.is_torn && save->state.torn[0] ? SAVE_CUT_OFF : cause;
+static enum cause cause_to_tell(const struct save *save, enum cause cause) {
+    return cause != 0 && save->state.is_torn && save->state.torn[0] ? CAUSE_CUT_OFF : cause;
 }
 
 /* Removes the draft of a failed save, even if it is the backup already, unless FILE needs the backup. */
@@ -297,7 +299,7 @@ static void clean_up(struct save *save) {
 }
 
 /* Ends the child, and leaves the result for the host, which answers the program. */
-static _Noreturn void end(struct save *save, int cause) {
+static _Noreturn void end(struct save *save, enum cause cause) {
     clean_up(save);
     save->state.cause = cause_to_tell(save, cause);
     save->state.is_over = true;
@@ -313,7 +315,7 @@ static _Noreturn void give_up(struct save *save) {
 
 /* Obeys a frame of the program. `end` ends the child, so COMMIT, and BEGIN with a cause, do not return. */
 static void obey_frame(struct save *save, const struct frame *frame, int answer) {
-    int cause = 0;
+    enum cause cause = CAUSE_NONE;
     switch (frame->letter) {
     case FRAME_BEGIN:
         cause = save_begin(save);
@@ -324,7 +326,7 @@ static void obey_frame(struct save *save, const struct frame *frame, int answer)
         draft_put(&save->draft, frame->bytes, frame->length);
         break;
     case FRAME_COMMIT:
-        end(save, save->draft.file < 0 ? SAVE_OTHER : save_commit(save));
+        end(save, save->draft.file < 0 ? CAUSE_OTHER : save_commit(save));
     default:
         break;
     }
@@ -391,12 +393,12 @@ bool saver_finish(struct saver *saver) {
 }
 
 void saver_refuse(struct saver *saver) {
-    unsigned char cause = SAVE_OTHER;
+    unsigned char cause = CAUSE_OTHER;
     current(saver)->cause = cause;
     write_frame(saver->answer, FRAME_FAILED, &cause, 1);
 }
 
-int saver_cause(const struct saver *saver) {
+enum cause saver_cause(const struct saver *saver) {
     return current(saver)->cause;
 }
 

@@ -5,6 +5,7 @@
 #include <stdbool.h>
 #include <sys/types.h>
 
+#include "cause.h"
 #include "file.h"
 
 struct saved;
@@ -42,8 +43,8 @@ pid_t saver_start(struct saver *saver, int request, int answer);
 bool saver_finish(struct saver *saver);
 void saver_refuse(struct saver *saver);
 
-/* What came of the last save: 0 where it is on the disk, else an enum save_cause. */
-int saver_cause(const struct saver *saver);
+/* What came of the last save: 0 where it is on the disk, else an enum cause. */
+enum cause saver_cause(const struct saver *saver);
 
 /* FILE as the last save left or found it; false where no save looked at it. */
 bool saver_stamp(const struct saver *saver, struct file_stamp *stamp, struct file_id *id);

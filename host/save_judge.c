@@ -2,8 +2,6 @@
  * their cases are in tests/host/judge_save.c. */
 #include "save_judge.h"
 
-#include <errno.h>
-
 enum { SET_IDS = 06000, ALL_BITS = 07777, GROUP_BITS = 070, OTHERS_BITS = 07 };
 
 /* Why a new file must not replace a file that the user can write. The first reason counts, as messages tell only one. */
@@ -87,21 +85,4 @@ bool is_unchanged(const struct stat *one, const struct stat *other) {
 
 bool is_taken_out(const struct file_stamp *seen, const struct file_stamp *out) {
     return seen->is_there && out->is_there && is_alike(&seen->found, &out->found);
-}
-
-int cause_of(int error) {
-    switch (error) {
-    case 0: return 0;
-    case ENOSPC:
-    case EDQUOT: return SAVE_NO_SPACE;
-    case EPERM:
-    case EACCES:
-    case EWOULDBLOCK: return SAVE_NOT_PERMITTED;
-    case ENOENT:
-    case ENOTDIR: return SAVE_FOLDER_GONE;
-    case EROFS: return SAVE_READ_ONLY;
-    case EFBIG: return SAVE_TOO_LARGE;
-    case ENOMEM: return SAVE_OUT_OF_MEMORY;
-    default: return SAVE_OTHER;
-    }
 }

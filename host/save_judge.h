@@ -6,7 +6,6 @@
 #include <sys/stat.h>
 
 #include "file.h"
-#include "frames.h"
 
 /* Why saves overwrite FILE in place. */
 enum reason {
@@ -42,8 +41,5 @@ enum stamp_verdict judge_stamp(const struct file_stamp *seen, const struct file_
 
 /* Whether what an exchange took from FILE's place is what was seen there. The time of change is not compared, since a rename changes it. */
 bool is_taken_out(const struct file_stamp *seen, const struct file_stamp *out);
-
-/* The cause of a failed call, an enum save_cause; 0 for none. */
-int cause_of(int error);
 
 #endif

@@ -1,5 +1,5 @@
 /* A save in progress, in the child that serves it: what save.c and draft.c share. Functions on drafts return 0 or an errno,
- * functions on saves 0 or an enum save_cause. */
+ * functions on saves 0 or an enum cause. */
 #ifndef SAVING_H
 #define SAVING_H
 
@@ -90,7 +90,7 @@ struct state {
     char torn[NAME_MAX + 1];
     /* The result of the last save, and FILE's identity after it. */
     bool is_over;
-    int cause;
+    enum cause cause;
     bool has_id;
     struct file_id id;
 };
@@ -112,7 +112,7 @@ struct save {
 int save_lock(int file);
 
 /* Makes the draft the backup, and overwrites FILE in place with its text. */
-int save_in_place(struct save *save);
+enum cause save_in_place(struct save *save);
 
 /* Removes the backup, now that FILE is complete. */
 void save_drop_backup(struct save *save);

@@ -264,7 +264,7 @@ def limits(check, tree):
     run.type(b'abc')
     check.holds('limits: keys go on', run.pump(5, b'<abc>'))
     run.type(SAVE)
-    check.holds('limits: a save fails', run.pump(5, b'failed 5'), run.output[-200:])  # SAVE_TOO_LARGE
+    check.holds('limits: a save fails', run.pump(5, b'failed 5'), run.output[-200:])  # CAUSE_TOO_LARGE
     run.type(QUIT)
     finish(check, run, 'limits', 0)
 

@@ -3,6 +3,7 @@
 #include <stdio.h>
 #include <string.h>
 
+#include "../../host/cause.h"
 #include "../../host/save_judge.h"
 
 static int passed, failed;
@@ -201,19 +202,19 @@ static const struct {
     int error, wanted;
 } causes[] = {
     {0, 0},
-    {ENOSPC, SAVE_NO_SPACE},
-    {EDQUOT, SAVE_NO_SPACE},
-    {EPERM, SAVE_NOT_PERMITTED},
-    {EACCES, SAVE_NOT_PERMITTED},
-    {ENOENT, SAVE_FOLDER_GONE},
-    {ENOTDIR, SAVE_FOLDER_GONE},
-    {EWOULDBLOCK, SAVE_NOT_PERMITTED},
-    {EROFS, SAVE_READ_ONLY},
-    {EFBIG, SAVE_TOO_LARGE},
-    {ENOMEM, SAVE_OUT_OF_MEMORY},
-    {EIO, SAVE_OTHER},
-    {ESTALE, SAVE_OTHER},
-    {EINVAL, SAVE_OTHER},
+    {ENOSPC, CAUSE_NO_SPACE},
+    {EDQUOT, CAUSE_NO_SPACE},
+    {EPERM, CAUSE_NOT_PERMITTED},
+    {EACCES, CAUSE_NOT_PERMITTED},
+    {ENOENT, CAUSE_FOLDER_GONE},
+    {ENOTDIR, CAUSE_FOLDER_GONE},
+    {EWOULDBLOCK, CAUSE_NOT_PERMITTED},
+    {EROFS, CAUSE_READ_ONLY},
+    {EFBIG, CAUSE_TOO_LARGE},
+    {ENOMEM, CAUSE_OUT_OF_MEMORY},
+    {EIO, CAUSE_OTHER},
+    {ESTALE, CAUSE_OTHER},
+    {EINVAL, CAUSE_OTHER},
 };
 
 int main(void) {

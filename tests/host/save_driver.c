@@ -82,7 +82,7 @@ static const char *hear(void) {
     is_killed = false;
     if (!read_frame(from_child, room, &frame)) return "no answer";
     if (frame.letter == FRAME_DONE) return causes[0];
-    if (frame.letter != FRAME_FAILED || frame.length != 1 || room[0] > SAVE_OTHER) return "wrong answer";
+    if (frame.letter != FRAME_FAILED || frame.length != 1 || room[0] > CAUSE_OTHER) return "wrong answer";
     return causes[room[0]];
 }
 

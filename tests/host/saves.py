@@ -69,7 +69,7 @@ def killed(check, tree):
     check.holds('killed saves: caught', saver)
     if saver:
         os.kill(saver, signal.SIGKILL)
-    check.holds('killed saves: told', run.pump(5, b'failed 10'), run.output[-200:])  # SAVE_OTHER
+    check.holds('killed saves: told', run.pump(5, b'failed 10'), run.output[-200:])  # CAUSE_OTHER
     check.holds('killed saves: FILE is not written', not os.path.exists(run.file))
     run.type(SAVE)
     check.holds('killed saves: the next', run.pump(10, b'3 saved'), run.output[-200:])
