@@ -88,7 +88,7 @@ static int write_text(struct session *session, struct report *said) {
         if (!said->is_changed && !error) said->is_changed = session->is_source_file && !is_as_read(session);
         if (said->is_changed) error = EIO;
     }
-    if (!error && fsync(session->text) != 0) {
+    if (!error && !session->is_hasty && fsync(session->text) != 0) {
         error = errno;
         said->is_refused = session->has_text;
     }
@@ -116,12 +116,13 @@ static int named_journal(const struct session *session) {
 /* Writes all parts that are missing, the path last, and syncs the journal to the disk. */
 static struct report write_missing(struct session *session) {
     struct report said = {.error = 0};
-    if (session->syncing != session->synced) said.journal_error = sync_file(named_journal(session));
+    if (session->syncing != session->synced && !session->is_hasty) said.journal_error = sync_file(named_journal(session));
     for (enum part part = 0; part < PARTS && !said.error; part++) {
         if (part != PART_PATH) said.error = write_part(session, part);
     }
     if (!said.error && !session->is_filled) said.error = write_text(session, &said);
     if (!said.error) said.error = write_part(session, PART_PATH);
+    if (session->is_hasty) return said;
     /* a failure does not count: the names exist already */
     fsync(session->folder);
     fsync(session->parent);
@@ -344,14 +345,15 @@ static void await_child(struct session *session, int milliseconds) {
 bool session_settle(struct session *session, int milliseconds) {
     if (!session_is_there(session)) return false;
     await_child(session, milliseconds);
-    look_after(session);
-    if (write_behind(session)) {
-        await_child(session, milliseconds);
-    } else {
-        write_session(session);
+    for (int tries = 0; tries < 2; tries++) {
+        session->is_hasty = tries > 0;
+        look_after(session);
+        if (session->is_hasty && is_whole(session)) break;
+        if (write_behind(session)) await_child(session, milliseconds);
+        else write_session(session);
     }
-    look_for_lost(session);
-    return is_whole(session) && !session->is_journal_behind;
+    /* notes may lack: what a recovery needs are the text, the journal, and the path, which is written after the text */
+    return session_has(session, PART_PATH) && session->text >= 0 && is_named(session, PART_TEXT, session->text);
 }
 
 void session_note_file(struct session *session, const struct target *target) {

@@ -292,6 +292,7 @@ static struct left left_of(struct edit *edit, enum left_how how) {
     bool is_wanted = left.is_torn || (left.has_keys && how != LEFT_SAVED);
     if (is_wanted) note_moved(edit);
     left.is_filled = is_wanted && settle(session);
+    if (session->is_journal_behind) edit->facts.is_journal_lost = true;
     left.is_secret = session_has(session, PART_SECRET);
     left.is_same = left.is_filled && left.has_keys && leave_text(edit);
     return left;
@@ -350,10 +351,7 @@ static void end_kept(struct edit *edit, enum left_how how) {
         if (!left.has_keys && edit->facts.is_journal_lost) tell_lost(how, "the journal could not be written");
         session_remove(session);
         break;
-    case FATE_LOST:
-        tell_lost(how, cause_of_lost(edit));
-        session_remove(session);
-        break;
+    case FATE_LOST: tell_lost(how, text_of("%s; what could be kept is in %s", cause_of_lost(edit), shown(session->path))); break;
     case FATE_DROPPED: drop_changes(edit); break;
     case FATE_WIPED: wipe_changes(edit); break;
     case FATE_KEPT: leave_session(edit); break;

@@ -92,10 +92,9 @@ enum fate fate_of(const struct left *left) {
     bool has_unsaved = left->how != LEFT_SAVED && left->has_keys;
     if (!left->is_there) return FATE_GONE;
     if (!has_unsaved && !left->is_torn) return FATE_REMOVED;
+    if (left->how == LEFT_DROPPED && !left->is_torn) return !left->is_filled ? FATE_REMOVED : left->is_secret ? FATE_WIPED : FATE_DROPPED;
     if (!left->is_filled) return FATE_LOST;
-    if (left->is_torn) return FATE_KEPT;
-    if (left->how == LEFT_DROPPED) return left->is_secret ? FATE_WIPED : FATE_DROPPED;
-    return left->is_same ? FATE_REMOVED : FATE_KEPT;
+    return left->is_same && !left->is_torn ? FATE_REMOVED : FATE_KEPT;
 }
 
 bool is_replayed_at_end(long long journal_size, bool is_signalled) {

@@ -66,7 +66,7 @@ bool may_be_unsaved(enum left_how how);
 
 struct left {
     enum left_how how;
-    /* is_there: the session's folder exists. is_filled: the session can be recovered, since it has all parts. has_keys: the journal
+    /* is_there: the session's folder exists. is_filled: the session can be recovered, since it has what that needs. has_keys: the journal
      * has keys, or the text counts as changed from the start. */
     bool is_there, is_filled, has_keys;
     /* FILE has only a part of a save's text; FILE has the session's text; only root could read FILE. */
@@ -75,8 +75,8 @@ struct left {
 
 enum fate {
     FATE_GONE,    /* its folder is gone */
-    FATE_REMOVED, /* removed: FILE has all of it, or it has nothing */
-    FATE_LOST,    /* removed: it cannot be recovered without the text as it was opened */
+    FATE_REMOVED, /* removed: FILE has all of it, it has nothing, or it was dropped before it could be recovered */
+    FATE_LOST,    /* left as it is, though it lacks the text as it was opened or FILE's path, without which no start recovers it */
     FATE_DROPPED, /* kept as the last one whose changes were dropped */
     FATE_WIPED,   /* dropped, and removed, since root alone could read FILE */
     FATE_KEPT     /* kept to be recovered */

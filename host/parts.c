@@ -43,20 +43,22 @@ int part_open(int folder, const char *name, int flags) {
     return openat(folder, name, flags | O_NOFOLLOW | O_NONBLOCK | O_CLOEXEC, FILE_MODE);
 }
 
-/* Syncs a file to the disk. For a file that a recovery can do without, only its bytes are written; its name follows with the next file. */
-static int sync_part(int file, bool is_needed) {
-    if (is_needed) return fsync(file) == 0 ? 0 : errno;
+/* How a part gets to the disk. SYNC_BYTES is for one that a recovery can do without: its name follows with the next part. */
+enum sync { SYNC_NOT, SYNC_BYTES, SYNC_ALL };
+
+static int sync_part(int file, enum sync how) {
+    if (how == SYNC_ALL) return fsync(file) == 0 ? 0 : errno;
     /* a disk that cannot do this writes them later */
-    sync_file_range(file, 0, 0, SYNC_FILE_RANGE_WAIT_BEFORE | SYNC_FILE_RANGE_WRITE | SYNC_FILE_RANGE_WAIT_AFTER);
+    if (how == SYNC_BYTES) sync_file_range(file, 0, 0, SYNC_FILE_RANGE_WAIT_BEFORE | SYNC_FILE_RANGE_WRITE | SYNC_FILE_RANGE_WAIT_AFTER);
     return 0;
 }
 
 /* Creates a part, all or nothing: after a fault its name is gone. */
-static int write_new(int folder, const char *name, const void *bytes, size_t size, bool is_needed) {
+static int write_new(int folder, const char *name, const void *bytes, size_t size, enum sync how) {
     int file = part_open(folder, name, O_WRONLY | O_CREAT | O_EXCL);
     if (file < 0) return errno;
     int error = write_bytes(file, bytes, size);
-    if (!error) error = sync_part(file, is_needed);
+    if (!error) error = sync_part(file, how);
     close(file);
     if (error) unlinkat(folder, name, 0);
     return error;
@@ -77,10 +79,11 @@ int put_part(const struct session *session, enum part part, const void *bytes, s
     char draft[64];
     const char *name = part_name(part);
     bool is_needed = part != PART_PROCESS && part != PART_FILE && part != PART_MODE;
-    if (!session_has(session, part)) return write_new(session->folder, name, bytes, size, is_needed);
+    enum sync how = session->is_hasty ? SYNC_NOT : is_needed ? SYNC_ALL : SYNC_BYTES;
+    if (!session_has(session, part)) return write_new(session->folder, name, bytes, size, how);
     snprintf(draft, sizeof draft, "%s.new", name);
     unlinkat(session->folder, draft, 0);
-    int error = write_new(session->folder, draft, bytes, size, is_needed);
+    int error = write_new(session->folder, draft, bytes, size, how);
     if (!error && renameat(session->folder, draft, session->folder, name) != 0) error = errno;
     if (error) unlinkat(session->folder, draft, 0);
     return error;

@@ -148,6 +148,8 @@ struct session {
     /* is_waiting: the text waits for space on the disk. has_text: the copy is complete. is_filled: the session can be recovered.
      * is_changed: FILE was changed before it could be copied. */
     bool is_waiting, has_text, is_filled, is_changed;
+    /* At an end that cannot wait: what is written is not synced to the disk. */
+    bool is_hasty;
     /* Why the last write failed. */
     int error;
     /* Whether `source` is FILE; and what FILE was like before the program read it. */
@@ -198,7 +200,7 @@ void session_fill(struct session *session);
 enum keeping session_mind(struct session *session);
 
 /* At the end, waits so long at most for the child, and tries once more to write what is missing, in this process if no child can be
- * started. Returns whether the session can be recovered. */
+ * started; at last without waiting for the disk to sync it. Returns whether the session can be recovered. */
 bool session_settle(struct session *session, int milliseconds);
 
 /* Records which file FILE is now: after each save, and if its folder was renamed. A failure does no harm. */

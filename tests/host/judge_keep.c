@@ -118,7 +118,8 @@ static const struct {
     {"dropped, secret", {.how = LEFT_DROPPED, .is_there = true, .has_keys = true, .is_filled = true, .is_secret = true}, FATE_WIPED},
     {"dropped, torn, secret", {.how = LEFT_DROPPED, .is_there = true, .has_keys = true, .is_filled = true, .is_secret = true, .is_torn = true},
      FATE_KEPT},
-    {"dropped, parts missing", {.how = LEFT_DROPPED, .is_there = true, .has_keys = true}, FATE_LOST},
+    {"dropped, parts missing", {.how = LEFT_DROPPED, .is_there = true, .has_keys = true}, FATE_REMOVED},
+    {"dropped, torn, parts missing", {.how = LEFT_DROPPED, .is_there = true, .has_keys = true, .is_torn = true}, FATE_LOST},
     {"unsaved, secret", {.how = LEFT_UNSAVED, .is_there = true, .has_keys = true, .is_filled = true, .is_secret = true}, FATE_KEPT},
     {"refused", {.how = LEFT_REFUSED, .is_there = true, .is_filled = true}, FATE_REMOVED},
     {"refused, recovered", {.how = LEFT_REFUSED, .is_there = true, .has_keys = true, .is_filled = true}, FATE_KEPT},
@@ -137,7 +138,8 @@ static void check_all_fates(void) {
         bool is_kept = fate == FATE_KEPT || fate == FATE_DROPPED;
         if (may_be_recovered && is_wanted && fate != FATE_KEPT) wrong++;
         if (is_kept && !left.is_filled) wrong++;
-        if (fate == FATE_REMOVED && (left.is_torn || (left.has_keys && left.how != LEFT_SAVED && !left.is_same))) wrong++;
+        bool is_over = !left.has_keys || left.is_same || left.how == LEFT_SAVED || left.how == LEFT_DROPPED;
+        if (fate == FATE_REMOVED && (left.is_torn || !is_over)) wrong++;
         if (fate == FATE_LOST && left.is_filled) wrong++;
         if ((fate == FATE_WIPED) && !(left.is_secret && left.how == LEFT_DROPPED)) wrong++;
         if ((fate == FATE_GONE) != !left.is_there) wrong++;

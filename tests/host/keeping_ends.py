@@ -1,5 +1,6 @@
 """Cases of keeping.py: what is kept while the program runs, and what is told at the end."""
-import os, shutil, signal, time
+import os, shutil, signal, subprocess, time
+from checks import Skipped, needs
 from keeping_scene import CHOICE, QUIT, SAVE, recovers
 
 
@@ -210,5 +211,65 @@ def pipe_in_its_place(check, place):
     check.holds('what is told', 'unsaved text is kept' in started.err(), started.err())
 
 
-CASES = [saved, killed, killed_host, no_keys, other_names, line_ends, folder_gone, parts_gone, journal_lost, folder_renamed,
+def hangs_up(started):
+    """Closes the terminal of a start, which ends by that."""
+    os.kill(started.run.job, signal.SIGHUP)
+    return started.ends(-signal.SIGHUP, 20)
+
+
+@needs('cc')
+def slow_syncs(check, place):
+    """On a disk where each sync takes half a second, an end in a hurry keeps the session, though not all of it was synced."""
+    library = f'{place.top}/slow_sync.so'
+    subprocess.run(['cc', '-shared', '-fPIC', '-D_GNU_SOURCE', '-o', library, f'{os.path.dirname(__file__)}/slow_sync.c'], check=True)
+    slow = {'LD_PRELOAD': library, 'ASAN_OPTIONS': 'verify_asan_link_order=0'}
+
+    def just_after_a_save(started):
+        started.type(SAVE).sees(b'saved').type(b'd').sees(b'<abcdtext')
+
+    def after_another_program(started):
+        time.sleep(4)  # the session is complete
+        place.put('b.txt', b'other\n')
+        os.rename(place.path('b.txt'), place.path('a.txt'))
+
+    for meanwhile, text in ((just_after_a_save, b'abcdtext\n'), (after_another_program, b'abctext\n'), (None, b'abctext\n')):
+        place.put('a.txt', b'text\n')
+        started = place.edit('a.txt', **slow).type(b'abc').sees(b'*')
+        if meanwhile:
+            meanwhile(started)
+        hangs_up(started)
+        name = meanwhile.__name__ if meanwhile else 'just after the start'
+        check.holds(f'what is told {name}', 'unsaved text is kept: ' in started.err(), started.err())
+        recovers(check, place, 'a.txt', text)
+        place.tells('--forget')
+        check.same(f'sessions {name}', place.sessions(), [])
+
+
+@needs('root', 'mount')
+def replaced_on_full_disk(check, place):
+    """FILE is replaced by another program while the disk of the sessions is full: the session stays."""
+    disk = f'{place.top}/disk'
+    os.mkdir(disk)
+    if subprocess.run(['mount', '-t', 'tmpfs', '-o', 'size=256k', 'none', disk], stderr=subprocess.DEVNULL).returncode != 0:
+        raise Skipped('no small disk can be mounted')
+    try:
+        place.put('a.txt', b'text\n')
+        started = place.edit('a.txt', XDG_STATE_HOME=disk).type(b'abc').sees(b'*')
+        time.sleep(1)
+        with open(f'{disk}/filler', 'wb', buffering=0) as filler:
+            try:
+                while filler.write(bytes(4096)):
+                    pass
+            except OSError:
+                pass
+        place.put('b.txt', b'other\n')
+        os.rename(place.path('b.txt'), place.path('a.txt'))
+        hangs_up(started)
+        check.holds('what is told', 'unsaved text is kept: ' in started.err(), started.err())
+        recovers(check, place, 'a.txt', b'abctext\n', XDG_STATE_HOME=disk)
+    finally:
+        subprocess.run(['umount', disk])
+
+
+CASES = [saved, killed, killed_host, slow_syncs, replaced_on_full_disk, no_keys, other_names, line_ends, folder_gone, parts_gone, journal_lost, folder_renamed,
          working_folder_gone, no_folder, long_folder, pipe_in_its_place]

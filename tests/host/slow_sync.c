@@ -1,0 +1,20 @@
+/* A library to be preloaded: each sync of the process takes half a second, as on a busy or slow disk. */
+#include <dlfcn.h>
+#include <fcntl.h>
+#include <unistd.h>
+
+enum { SLOW_US = 500000 };
+
+int fsync(int file) {
+    int (*call)(int);
+    *(void **)&call = dlsym(RTLD_NEXT, "fsync");
+    usleep(SLOW_US);
+    return call(file);
+}
+
+int sync_file_range(int file, off64_t from, off64_t size, unsigned flags) {
+    int (*call)(int, off64_t, off64_t, unsigned);
+    *(void **)&call = dlsym(RTLD_NEXT, "sync_file_range");
+    usleep(SLOW_US);
+    return call(file, from, size, flags);
+}
