@@ -51,6 +51,8 @@ const char *find_versions(const struct edit *edit, char words[MOST_WORDS]) {
 bool tell_mended(const struct edit *edit, const struct mending *mending, void (*say)(const char *format, ...)) {
     const char *file = shown(edit->file.typed);
     if (mending->mended == MENDED_PUT_BACK) say("a save of %s was interrupted; its whole text has been restored", file);
+    if (mending->mended == MENDED_NOT)
+        say("%s has only a part of what was saved last, and may have been cut by another program: the whole text is in %s", file, shown(mending->backup));
     if (mending->mended == MENDED_STILL_TORN)
         say("a save of %s was interrupted, and its text cannot be restored: the whole text is in %s", file, shown(mending->backup));
     return mending->mended == MENDED_STILL_TORN;
@@ -329,6 +331,7 @@ static void begin_saves(struct edit *edit) {
     edit->saver.is_itself = edit->is_itself;
     if (session_is_none(&edit->session)) return;
     edit->saver.lock = edit->session.lock;
+    edit->saver.boot = this_process()->boot;
     if (edit->is_in_place) edit->saver.backup_folder = edit->session.folder;
 }
 

@@ -349,7 +349,7 @@ bool session_settle(struct session *session, int milliseconds) {
         session->is_hasty = tries > 0;
         look_after(session);
         if (session->is_hasty && is_whole(session)) break;
-        if (write_behind(session)) await_child(session, milliseconds);
+        if (write_behind(session)) await_child(session, (int)within(milliseconds));
         else write_session(session);
     }
     /* notes may lack: what a recovery needs are the text, the journal, and the path, which is written after the text */

@@ -9,6 +9,7 @@
 #include <string.h>
 #include <sys/syscall.h>
 #include <sys/xattr.h>
+#include <time.h>
 #include <unistd.h>
 
 #include "frames.h"
@@ -236,9 +237,45 @@ void draft_remove(struct draft *draft) {
 void save_drop_backup(struct save *save) {
     int backup_folder = save->saver->backup_folder;
     if (backup_folder >= 0) unlinkat(backup_folder, BACKUP_NAME, 0);
+    if (backup_folder >= 0) unlinkat(backup_folder, STEP_NAME, 0);
     if (save->state.is_torn && save->state.torn[0]) unlinkat(save->folder, save->state.torn, 0);
     save->state.is_torn = false;
     save->state.torn[0] = 0;
+}
+
+/* ---- how far a save into FILE has come, which a start reads after it was killed */
+
+/* Records the next step; FILE was changed at this time last. A later start does without what cannot be written. */
+static void note_step(const struct save *save, enum step_kind kind, const struct timespec *changed, uint64_t from, uint64_t to) {
+    char words[MOST_WORDS];
+    const struct stat *file = &save->state.seen.found;
+    struct step step = {.kind = kind, .from = from, .to = to, .id = {.device = file->st_dev, .inode = file->st_ino},
+                        .seconds = changed->tv_sec, .nanos = (uint32_t)changed->tv_nsec};
+    if (save->step < 0) return;
+    snprintf(step.boot, sizeof step.boot, "%s", save->saver->boot);
+    words_of_step(&step, words);
+    if (pwrite(save->step, words, strlen(words), 0) < 0) return;
+}
+
+/* The same before FILE is changed, at the time of day. */
+static void note_first(const struct save *save, enum step_kind kind) {
+    struct timespec today = {0};
+    clock_gettime(CLOCK_REALTIME, &today);
+    note_step(save, kind, &today, 0, 0);
+}
+
+/* The same for FILE as it is now. */
+static void note_next(const struct save *save, int file, enum step_kind kind, uint64_t from, uint64_t to) {
+    struct stat found;
+    if (save->step >= 0 && fstat(file, &found) == 0) note_step(save, kind, &found.st_mtim, from, to);
+}
+
+/* Opens the record of steps in the session's folder, and puts it on the disk. If FILE is torn by an earlier save, that one's step stays. */
+static int open_steps(struct save *save) {
+    save->step = openat(save->saver->backup_folder, STEP_NAME, O_WRONLY | O_CREAT | O_NOFOLLOW | O_CLOEXEC, 0600);
+    if (save->step < 0) return errno;
+    if (!save->state.is_torn) note_first(save, STEP_READY);
+    return sync_file(save->step);
 }
 
 /* Gives the backup beside FILE the first free name of those in the manual, else a random one. */
@@ -261,6 +298,8 @@ static int keep_backup(struct save *save) {
     }
     if (renameat(backup_folder, BACKUP_DRAFT_NAME, backup_folder, BACKUP_NAME) != 0) return errno;
     snprintf(save->draft.name, sizeof save->draft.name, "%s", BACKUP_NAME);
+    error = open_steps(save);
+    if (error != 0) return error;
     int folder = openat(backup_folder, ".", O_RDONLY | O_DIRECTORY | O_CLOEXEC);
     if (folder < 0) return errno;
     error = sync_file(folder);
@@ -299,10 +338,29 @@ static void note_torn(struct save *save) {
     save_publish(save);
 }
 
+/* FILE while it is filled. */
+struct filling {
+    const struct save *save;
+    int file, error;
+    uint64_t done;
+};
+
+static void fill_piece(void *context, const char *bytes, size_t size) {
+    struct filling *filling = context;
+    if (filling->error != 0) return;
+    note_next(filling->save, filling->file, STEP_PARTLY, filling->done, filling->done + size);
+    filling->done += size;
+    filling->error = write_bytes(filling->file, bytes, size);
+}
+
 /* Copies the draft's text to FILE, which is empty by now. The draft is read by its open descriptor, since its name may lead elsewhere. */
 static int fill(const struct save *save, int file) {
-    int error = copy_pieces(save->draft.file, 0, file);
-    return error == 0 ? sync_file(file) : error;
+    struct filling filling = {.save = save, .file = file};
+    int error = read_pieces(save->draft.file, 0, fill_piece, &filling);
+    if (error == 0) error = filling.error;
+    if (error != 0) return error;
+    note_next(save, file, STEP_WHOLE, filling.done, filling.done);
+    return sync_file(file);
 }
 
 /* Whether another program has written FILE since it was filled: its size is not that of its new text. Its time does not tell this, since
@@ -319,6 +377,7 @@ enum cause save_in_place(struct save *save) {
     if (error != 0) return cause_of(error);
     int file = open_to_write(save, &cause);
     if (file < 0) return cause;
+    note_first(save, STEP_PARTLY);
     error = ftruncate(file, 0) == 0 ? 0 : errno;
     if (error == 0) {
         note_torn(save);
@@ -332,6 +391,7 @@ enum cause save_in_place(struct save *save) {
         draft_close(&save->draft);
     }
     close(file);
+    close_one(&save->step);
     if (error != 0) return cause_of(error);
     save_drop_backup(save);
     return 0;

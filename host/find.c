@@ -285,12 +285,47 @@ static enum verdict judge_target(const struct target *target, int backup) {
     return verdict;
 }
 
+/* An open file as is_as_left looks at it. */
+static bool look_at(int file, struct step *now) {
+    struct stat found;
+    if (fstat(file, &found) != 0) return false;
+    *now = (struct step){.from = (uint64_t)found.st_size, .id = {.device = found.st_dev, .inode = found.st_ino},
+                         .seconds = found.st_mtim.tv_sec, .nanos = (uint32_t)found.st_mtim.tv_nsec};
+    snprintf(now->boot, sizeof now->boot, "%s", this_process()->boot);
+    return true;
+}
+
+/* Whether an open file with a part of the backup's text is as the session's save left it. */
+static bool is_left_by_save(const struct session *session, int file) {
+    struct step step, now;
+    char *words = session_note(session, PART_STEP);
+    bool is_left = words && step_of(words, &step) && look_at(file, &now) && is_as_left(&step, &now);
+    free(words);
+    return is_left;
+}
+
+/* Records that FILE is being repaired, since that too may be killed. */
+static void note_repair(const struct session *session, int file) {
+    char words[MOST_WORDS];
+    struct step step;
+    struct timespec today;
+    if (!look_at(file, &step) || clock_gettime(CLOCK_REALTIME, &today) != 0) return;
+    step.kind = STEP_PARTLY;
+    step.to = UINT64_MAX;
+    step.seconds = today.tv_sec;
+    words_of_step(&step, words);
+    if (put_part(session, PART_STEP, words, strlen(words)) != 0) return;
+}
+
 /* Copies the text of a backup into a torn file. The file is judged again once it is open, so that the same file is judged and written. */
-static enum mended put_back(const struct target *target, int backup) {
+static enum mended put_back(const struct session *session, const struct target *target, int backup) {
     int file = open_target(target, O_RDWR);
     if (file < 0) return MENDED_STILL_TORN;
     enum mended mended = MENDED_WHOLE;
-    if (judge_file(file, backup) == FILE_TORN) {
+    if (judge_file(file, backup) == FILE_TORN && !is_left_by_save(session, file)) {
+        mended = MENDED_NOT;
+    } else if (judge_file(file, backup) == FILE_TORN) {
+        note_repair(session, file);
         int error = lseek(file, 0, SEEK_SET) == 0 ? copy_file(backup, 0, file) : errno;
         if (!error && fsync(file) != 0) error = errno;
         mended = error ? MENDED_STILL_TORN : MENDED_PUT_BACK;
@@ -336,7 +371,7 @@ static enum mended mend_by(const struct session *session, const struct target *t
     int backup = session_open(session, PART_BACKUP);
     if (backup < 0) return MENDED_WHOLE;
     enum mended mended = MENDED_WHOLE;
-    if (judge_target(target, backup) == FILE_TORN) mended = put_back(target, backup);
+    if (judge_target(target, backup) == FILE_TORN) mended = put_back(session, target, backup);
     close(backup);
     return mended;
 }
@@ -348,6 +383,8 @@ int session_mend(struct session *session, const struct sessions *sessions, const
     if (error || !session_has(session, PART_BACKUP)) return error;
     if (saves_into(session, target) && !is_being_saved(sessions, session, target)) mending->mended = mend_by(session, target);
     if (mending->mended == MENDED_STILL_TORN) return 0;
+    if (mending->mended == MENDED_NOT) session_path_of(session, PART_SAVE, mending->backup);
+    session_erase(session, PART_STEP);
     return renameat(session->folder, part_name(PART_BACKUP), session->folder, part_name(PART_SAVE)) == 0 ? 0 : errno;
 }
 

@@ -23,7 +23,7 @@ const char *part_name(enum part part) {
         [PART_JOURNAL] = "journal",   [PART_LOCK] = "lock",         [PART_DROPPED] = "dropped",   [PART_CUT] = "cut",
         [PART_UNSAVED] = "unsaved",   [PART_UNJOINED] = "unjoined", [PART_SNAPSHOT] = "snapshot", [PART_PLACE] = "place",
         [PART_SAVE] = "save",         [PART_FILE] = "file",         [PART_SECRET] = "secret",     [PART_BACKUP] = BACKUP_NAME,
-        [PART_BACKUP_DRAFT] = BACKUP_DRAFT_NAME,
+        [PART_BACKUP_DRAFT] = BACKUP_DRAFT_NAME, [PART_STEP] = STEP_NAME,
     };
     return names[part];
 }

@@ -363,7 +363,7 @@ static void become_child(const struct saver *saver, int request, int answer) {
 
 bool saver_open(struct saver *saver, struct file *file) {
     void *shared = mmap(NULL, sizeof(struct saved), PROT_READ | PROT_WRITE, MAP_SHARED | MAP_ANONYMOUS, -1, 0);
-    *saver = (struct saver){.file = file, .backup_folder = -1, .lock = -1, .answer = -1};
+    *saver = (struct saver){.file = file, .backup_folder = -1, .lock = -1, .answer = -1, .boot = ""};
     if (shared == MAP_FAILED) return false;
     saver->saved = shared;
     atomic_init(&saver->saved->current, 0);
@@ -381,7 +381,7 @@ pid_t saver_start(struct saver *saver, int request, int answer) {
     if (child != 0) return child;
     become_child(saver, request, answer);
     static struct save save;
-    save = (struct save){.saver = saver, .file = saver->file, .state = *current(saver), .folder = -1, .folder_to_sync = -1, .draft = {.file = -1}};
+    save = (struct save){.saver = saver, .file = saver->file, .state = *current(saver), .folder = -1, .folder_to_sync = -1, .draft = {.file = -1}, .step = -1};
     serve(&save, request, answer);
 }
 

@@ -17,6 +17,8 @@ struct saver {
     int backup_folder, lock;
     /* Saves go into FILE itself, with the backup beside it. */
     bool is_itself;
+    /* What identifies this run of the system; empty if unknown. */
+    const char *boot;
     /* What the saves so far left, in memory that the child writes to. */
     struct saved *saved;
     /* Where the last child answers. */
@@ -27,6 +29,8 @@ struct saver {
  * since sessions of earlier versions have them. */
 #define BACKUP_NAME "mark"
 #define BACKUP_DRAFT_NAME "mark.bx"
+/* The file there that says how far a save into FILE has come (struct step). */
+#define STEP_NAME "mark.step"
 
 /* Prepares a saver. What it has seen of FILE last is `file` as it was opened. backup_folder, lock and is_itself are -1, -1 and false, and
  * the caller may set them. Returns false without memory. */

@@ -103,6 +103,8 @@ struct save {
     /* FILE's folder; and the same folder opened for syncing and locking, -1 if it cannot be read. */
     int folder, folder_to_sync;
     struct draft draft;
+    /* The file in the session's folder that says how far a save into FILE has come; -1 without one. */
+    int step;
     /* At the beginning FILE was as last seen; the draft is to be a backup; FILE had no access list. */
     bool is_there, is_in_place, is_listless;
 };

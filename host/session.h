@@ -111,6 +111,8 @@ enum part {
     /* The backup: the whole text of a save that overwrites FILE, as long as FILE is being written; and one that is not complete yet. */
     PART_BACKUP,
     PART_BACKUP_DRAFT,
+    /* How far that save has come (struct step). */
+    PART_STEP,
     /* FILE's path, if saves overwrite FILE in place. */
     PART_PLACE,
     /* The text of the last backup, after FILE was repaired from it or needed no repair. */
@@ -322,7 +324,8 @@ void sessions_forget(const struct sessions *sessions, const struct target *targe
 
 /* ---- repairs after an interrupted save that overwrote FILE */
 
-enum mended { MENDED_WHOLE, MENDED_PUT_BACK, MENDED_STILL_TORN };
+/* NOT: FILE has only a part of the text, but not as the save left it, so another program may have cut it, and it stays as it is. */
+enum mended { MENDED_WHOLE, MENDED_PUT_BACK, MENDED_NOT, MENDED_STILL_TORN };
 struct mending {
     enum mended mended;
     /* The file with the whole text. */

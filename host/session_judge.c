@@ -215,6 +215,42 @@ enum verdict compare_end(const struct backup_comparison *comparison, uint64_t si
     return comparison->is_torn && size_of_file <= size_of_backup ? FILE_TORN : FILE_OTHER;
 }
 
+/* ---- the steps of a save that overwrites FILE */
+
+static const char *const step_words[] = {[STEP_READY] = "ready", [STEP_PARTLY] = "partly", [STEP_WHOLE] = "whole"};
+
+bool step_of(const char *words, struct step *step) {
+    char kind[8];
+    uint64_t device, inode, seconds, nanos;
+    if (!take_word(&words, kind, sizeof kind) || !take_number(&words, UINT64_MAX, &device) || !take_number(&words, UINT64_MAX, &inode)) return false;
+    if (!take_number(&words, INT64_MAX, &seconds) || !take_number(&words, NANOS - 1, &nanos)) return false;
+    if (!take_number(&words, UINT64_MAX, &step->from) || !take_number(&words, UINT64_MAX, &step->to)) return false;
+    if (!take_word(&words, step->boot, sizeof step->boot)) return false;
+    step->id = (struct file_id){.device = (dev_t)device, .inode = (ino_t)inode};
+    step->seconds = (int64_t)seconds;
+    step->nanos = (uint32_t)nanos;
+    for (step->kind = STEP_READY; step->kind <= STEP_WHOLE; step->kind++)
+        if (strcmp(kind, step_words[step->kind]) == 0) return true;
+    return false;
+}
+
+void words_of_step(const struct step *step, char words[MOST_WORDS]) {
+    snprintf(words, MOST_WORDS, "%s %" PRIu64 " %" PRIu64 " %" PRId64 " %" PRIu32 " %" PRIu64 " %" PRIu64 " %s\n", step_words[step->kind],
+             (uint64_t)step->id.device, (uint64_t)step->id.inode, step->seconds, step->nanos, step->from, step->to,
+             step->boot[0] ? step->boot : "-");
+}
+
+bool is_as_left(const struct step *step, const struct step *now) {
+    /* seconds that a step may take, and in which nobody else is likely to write FILE */
+    enum { SOON = 5 };
+    if (!is_same_id(&step->id, &now->id)) return false;
+    bool is_soon = now->seconds >= step->seconds - SOON && now->seconds <= step->seconds + SOON;
+    /* after a crash of the machine, the disk may have an earlier step than FILE */
+    if (strcmp(step->boot, now->boot) != 0) return is_soon;
+    if (step->kind == STEP_PARTLY) return is_soon && now->from >= step->from && now->from <= step->to;
+    return step->kind == STEP_WHOLE && now->seconds == step->seconds && now->nanos == step->nanos;
+}
+
 /* ---- keys */
 
 /* The state after the first byte of a key. A Save is noted, since a size may follow that was recorded with it. */

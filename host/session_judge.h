@@ -129,6 +129,25 @@ void compare_begin(struct backup_comparison *comparison);
 void compare_more(struct backup_comparison *comparison, const char *of_file, const char *of_backup, size_t count);
 enum verdict compare_end(const struct backup_comparison *comparison, uint64_t size_of_file, uint64_t size_of_backup);
 
+/* How far a save that overwrites FILE has come. The save records it beside the backup before each step. So a later start can tell FILE as
+ * a killed save left it from a FILE that another program has emptied or cut since. */
+enum step_kind { STEP_READY, STEP_PARTLY, STEP_WHOLE };
+struct step {
+    /* READY: FILE is not changed yet. PARTLY: after this step FILE has at least `from` and at most `to` bytes. WHOLE: it has all. */
+    enum step_kind kind;
+    uint64_t from, to;
+    struct file_id id;
+    /* When FILE was changed last, before the step; for the first steps, the time of day. */
+    int64_t seconds;
+    uint32_t nanos;
+    /* Empty if unknown. */
+    char boot[64];
+};
+bool step_of(const char *words, struct step *step);
+void words_of_step(const struct step *step, char words[MOST_WORDS]);
+/* Whether FILE, which has a part of the backup's text, is as the save left it. `now` has its identity, size (`from`), time and boot. */
+bool is_as_left(const struct step *step, const struct step *now);
+
 /* Counts a journal's keys, piece by piece, without replaying them. It does not count notices of the host, sizes of the window, and
  * a Save right before a size: a recovered session begins with these two. */
 enum after { AFTER_KEY, AFTER_SAVE, AFTER_ESCAPE, AFTER_SAVED_ESCAPE, IN_SEQUENCE, IN_SAVED_SEQUENCE, IN_NOTICE };

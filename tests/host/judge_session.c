@@ -297,6 +297,59 @@ static void check_keys(void) {
     }
 }
 
+/* The words of a save's step: what is written is read back, and what is malformed is none. */
+static void check_step_words(void) {
+    char words[MOST_WORDS];
+    struct step step, again;
+    check(step_of("partly 65024 12 1700000000 999999999 0 65536 some-boot\n", &step), "step", "well formed");
+    check(step.kind == STEP_PARTLY && step.id.device == 65024 && step.id.inode == 12 && step.seconds == 1700000000 && step.nanos == 999999999 &&
+              step.from == 0 && step.to == 65536 && strcmp(step.boot, "some-boot") == 0, "step", "what it says");
+    words_of_step(&step, words);
+    check(strcmp(words, "partly 65024 12 1700000000 999999999 0 65536 some-boot\n") == 0, "step", words);
+    step.boot[0] = '\0';
+    words_of_step(&step, words);
+    check(step_of(words, &again) && strcmp(again.boot, "-") == 0, "step", "an unknown boot");
+    static const char *const wrong[] = {"", "partly", "none 1 2 3 4 5 6 b", "partly 1 2 3 1000000000 5 6 b", "partly 1 2 3 4 5 b", "whole 1 -2 3 4 5 6 b"};
+    for (size_t at = 0; at < sizeof wrong / sizeof *wrong; at++) check(!step_of(wrong[at], &step), "step", wrong[at]);
+}
+
+/* Whether FILE is as a killed save left it: the step that it noted, and FILE as it is. Each of the last five members is different in `now`. */
+static void check_left_files(void) {
+    static const struct {
+        const char *which;
+        enum step_kind kind;
+        /* How FILE differs from the step: another inode, its size, seconds and nanoseconds later, another boot. */
+        unsigned inode;
+        uint64_t size;
+        int seconds;
+        unsigned nanos;
+        bool is_other_boot, is_left;
+    } cases[] = {
+        {"not begun", STEP_READY, 0, 10, 0, 0, false, false},
+        {"not begun, then the machine crashed", STEP_READY, 0, 10, 5, 0, true, true},
+        {"not begun, then the machine crashed, long ago", STEP_READY, 0, 10, 6, 0, true, false},
+        {"as noted", STEP_PARTLY, 0, 10, 0, 0, false, true},
+        {"the step itself", STEP_PARTLY, 0, 20, 1, 0, false, true},
+        {"within the step", STEP_PARTLY, 0, 15, 0, 1, false, true},
+        {"shorter", STEP_PARTLY, 0, 9, 0, 1, false, false},
+        {"longer", STEP_PARTLY, 0, 21, 0, 1, false, false},
+        {"later", STEP_PARTLY, 0, 10, 6, 0, false, false},
+        {"earlier", STEP_PARTLY, 0, 10, -6, 0, false, false},
+        {"another file", STEP_PARTLY, 1, 10, 0, 0, false, false},
+        {"whole", STEP_WHOLE, 0, 9, 0, 0, false, true},
+        {"whole, and changed since", STEP_WHOLE, 0, 9, 0, 1, false, false},
+        {"whole, then the machine crashed", STEP_WHOLE, 0, 9, -1, 0, true, true},
+        {"another file after a crash", STEP_WHOLE, 1, 9, 0, 0, true, false},
+    };
+    for (size_t at = 0; at < sizeof cases / sizeof *cases; at++) {
+        struct step step = {.kind = cases[at].kind, .from = 10, .to = 20, .id = {.device = 1, .inode = 2}, .seconds = 1000, .nanos = 5, .boot = "b"};
+        struct step now = {.from = cases[at].size, .id = {.device = 1, .inode = 2 + cases[at].inode}, .seconds = 1000 + cases[at].seconds,
+                           .nanos = 5 + cases[at].nanos, .boot = "b"};
+        if (cases[at].is_other_boot) now.boot[0] = 'c';
+        check(is_as_left(&step, &now) == cases[at].is_left, "left file", cases[at].which);
+    }
+}
+
 /* Whether all line ends of a text are CR LF. The text is taken whole and in two pieces at each offset. */
 static void check_line_ends(void) {
     static const struct {
@@ -361,6 +414,8 @@ int main(void) {
     check_belongings();
     check_states();
     check_backups();
+    check_step_words();
+    check_left_files();
     check_keys();
     check_line_ends();
     check_keepings();

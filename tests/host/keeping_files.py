@@ -92,6 +92,10 @@ def torn(check, place):
         place.put_part('mark', b'abcdtext\n')
         with open(place.path('a.txt'), 'r+b') as file:
             file.truncate(3)
+        look = os.stat(place.path('a.txt'))
+        boot = open('/proc/sys/kernel/random/boot_id').read().strip()
+        step = f'partly {look.st_dev} {look.st_ino} {look.st_mtime_ns // 10**9} {look.st_mtime_ns % 10**9} 0 9 {boot}\n'
+        place.put_part('mark.step', step.encode())
         started.kill()
         if is_gone:
             os.unlink(place.path('a.txt'))
@@ -99,6 +103,38 @@ def torn(check, place):
         told = 'bidi-edit: a save of b.txt was interrupted; its whole text has been restored\n'
         check.holds('what is told', started.err().startswith(told), started.err())
         check.same('FILE', place.text('b.txt'), b'abcdtext\n')
+        place.tells('--forget')
+        for name in glob.glob(place.path('*')):
+            os.unlink(name)
+
+
+@needs('cc')
+def cut_by_another(check, place):
+    """A save that overwrites FILE is killed once FILE has all. What another program empties or cuts then is not filled again."""
+    library = f'{place.top}/slow_sync.so'
+    subprocess.run(['cc', '-shared', '-fPIC', '-D_GNU_SOURCE', '-o', library, f'{os.path.dirname(__file__)}/slow_sync.c'], check=True)
+    slow = {'LD_PRELOAD': library, 'ASAN_OPTIONS': 'verify_asan_link_order=0'}
+    for left in (b'', b'abc'):
+        place.put('a.txt', b'text\n')
+        os.link(place.path('a.txt'), place.path('b.txt'))
+        started = place.edit('a.txt', **slow).type(b'abc').sees(b'*')
+        time.sleep(4)  # the session is complete
+        started.type(SAVE)
+        end = time.monotonic() + 20
+        while place.text('a.txt') != b'abctext\n' and time.monotonic() < end:
+            time.sleep(0.01)
+        saver = started.run.child('bidi-saver')
+        check.holds('FILE is not synced yet', saver, place.text('a.txt'))
+        for process in (saver, started.run.child('bidi_edit'), started.run.job):
+            os.kill(process, signal.SIGKILL)
+        started.ends(-signal.SIGKILL)
+        with open(place.path('b.txt'), 'wb') as file:
+            file.write(left)
+        found = place.start('a.txt').answers(CHOICE, 'l').sees(b'text <').type(QUIT).ends(0)
+        told = f'a.txt has only a part of what was saved last, and may have been cut by another program: the whole text is in {place.sessions()[0]}/save\n'
+        check.holds('what is told', told in found.err(), found.err())
+        check.same('FILE', place.text('a.txt'), left)
+        check.same('the text of the save', place.part('save'), b'abctext\n')
         place.tells('--forget')
         for name in glob.glob(place.path('*')):
             os.unlink(name)
@@ -194,4 +230,4 @@ def watched_files(check, place):
     started.type(QUIT).ends(0)
 
 
-CASES = [forgets, foreign_names, closed_files, renamed, torn, full_disk, read_only_disk, large, watched_files]
+CASES = [forgets, foreign_names, closed_files, renamed, torn, cut_by_another, full_disk, read_only_disk, large, watched_files]

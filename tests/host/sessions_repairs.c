@@ -100,17 +100,39 @@ static void note_mended(void *context, const struct mending *mending) {
     *(int *)context = (int)mending->mended;
 }
 
-/* FILE, of which a killed save left this, gets its whole text back from the backup; any other text stays. */
+/* Records that a save came so far in FILE, as it is now. */
+static void put_step(struct session *session, enum step_kind kind) {
+    char words[MOST_WORDS];
+    struct stat found;
+    if (stat(path_in("note"), &found) != 0) abort();
+    struct step step = {.kind = kind, .to = 5, .id = {.device = found.st_dev, .inode = found.st_ino},
+                        .seconds = found.st_mtim.tv_sec, .nanos = (uint32_t)found.st_mtim.tv_nsec};
+    snprintf(step.boot, sizeof step.boot, "%s", this_process()->boot);
+    words_of_step(&step, words);
+    session_put(session, PART_STEP, words, strlen(words));
+}
+
+/* FILE, of which a killed save left this, gets its whole text back from the backup; any other text stays, and so does a part of the text
+ * that is not as that save left it. */
 static void check_mending(void) {
     static const struct {
         const char *which, *bytes;
         size_t size;
+        enum step_kind kind;
         enum mended mended;
-        const char *left;
+        const char *left, *after;
     } cases[] = {
-        {"torn", "he", 2, MENDED_PUT_BACK, "hello"},      {"zeros", "h\0\0l", 4, MENDED_PUT_BACK, "hello"},
-        {"whole", "hello", 5, MENDED_WHOLE, "hello"},     {"another", "help", 4, MENDED_WHOLE, "help"},
-        {"longer", "hello there", 11, MENDED_WHOLE, "hello there"},
+        {"torn", "he", 2, STEP_PARTLY, MENDED_PUT_BACK, "hello", "true"},
+        {"empty", "", 0, STEP_PARTLY, MENDED_PUT_BACK, "hello", "true"},
+        {"zeros", "h\0\0l", 4, STEP_PARTLY, MENDED_PUT_BACK, "hello", "true"},
+        {"whole", "hello", 5, STEP_WHOLE, MENDED_WHOLE, "hello", "true"},
+        {"another", "help", 4, STEP_PARTLY, MENDED_WHOLE, "help", "true"},
+        {"longer", "hello there", 11, STEP_PARTLY, MENDED_WHOLE, "hello there", "true"},
+        {"cut by another program after the save", "hello", 5, STEP_WHOLE, MENDED_NOT, "he", "sleep 0.02; printf he >note"},
+        {"emptied by another program after the save", "hello", 5, STEP_WHOLE, MENDED_NOT, "", "sleep 0.02; : >note"},
+        {"emptied by another program before FILE was written", "old", 3, STEP_READY, MENDED_NOT, "", ": >note"},
+        {"replaced by another program", "h", 1, STEP_PARTLY, MENDED_NOT, "he", "printf he >new; touch -r note new; mv new note"},
+        {"torn, and cut later", "he", 2, STEP_PARTLY, MENDED_NOT, "he", "touch -d '1 minute' note"},
     };
     for (size_t at = 0; at < sizeof cases / sizeof *cases; at++) {
         struct sessions sessions;
@@ -121,6 +143,9 @@ static void check_mending(void) {
         session_put(&session, PART_PLACE, target.path, strlen(target.path));
         session_put(&session, PART_BACKUP, "hello", 5);
         write_file(path_in("note"), cases[at].bytes, cases[at].size);
+        put_step(&session, cases[at].kind);
+        run(cases[at].after);
+        target_look(&target, target.path, target.folder, target.name);
         check(sessions_mend(&sessions, &target, note_mended, &mended) && mended == -1, "mending: not of a session that lives");
         session_put(&session, PART_PROCESS, "7 elsewhere other\n", 18);
         struct session elsewhere = session;
@@ -131,6 +156,7 @@ static void check_mending(void) {
         check(sessions_mend(&sessions, &target, note_mended, &mended), cases[at].which);
         check(mended == (int)cases[at].mended, cases[at].which);
         check(strcmp(read_text(path_in("note")), cases[at].left) == 0, cases[at].which);
+        if (mended == MENDED_NOT) run("grep -q hello state/bidi_edit/2*/save && test ! -e \"$(echo state/bidi_edit/2*)/mark.step\"");
         leave(&session, &sessions);
     }
 }

@@ -194,8 +194,8 @@ check_changes_in_place() {
 check_gone_when_torn() {
     begin_point 'a file that was torn and is gone'
     prepare plain
-    # the first two syncs are of the backup's draft and its folder, the third is of FILE
-    open_session strace -f -o "$folder/log" -e trace=fsync -e inject=fsync:error=EIO:when=3
+    # the first three syncs are of the backup's draft, of the record of steps and of their folder, the fourth is of FILE
+    open_session strace -f -o "$folder/log" -e trace=fsync -e inject=fsync:error=EIO:when=4
     save_all
     grep -q INJECTED "$folder/log" || fails "the call was not met"
     [ -e "$backup" ] || fails "the backup is not there"
