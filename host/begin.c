@@ -249,7 +249,6 @@ static void on_opened(void *whose) {
     struct edit *edit = whose;
     bool is_kept = !session_is_none(&edit->session);
     if (is_kept) session_fill(&edit->session);
-    else edit->had_all_crlf = edit->file.text >= 0 && has_all_crlf(edit->file.text);
     if (!is_kept || edit->is_resumed) release_file(&edit->file);
 }
 

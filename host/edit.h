@@ -46,8 +46,6 @@ struct edit {
     const char *moved;
     /* FILE's permissions as the recovered session recorded them, if FILE is gone; else -1. */
     int lost_mode;
-    /* Without a session: whether all line ends of FILE were CR LF when it was opened. */
-    bool had_all_crlf;
 
     struct saver saver;
     struct run run;
