@@ -246,50 +246,37 @@ static void make_titles(struct edit *edit) {
     for (size_t i = 0; i < sizeof notes / sizeof *notes; i++) edit->titles[i] = text_of("%s - ^S save ^Q quit F1 keys%s", name, notes[i]);
 }
 
-/* Called once the program has read FILE: FILE is copied into the session, and closed after that. */
+/* Called once the program has read FILE: the keeper copies FILE into the session. */
 static void on_opened(void *whose) {
     struct edit *edit = whose;
-    bool is_kept = !session_is_none(&edit->session);
-    if (is_kept) session_fill(&edit->session);
-    else edit->had_all_crlf = edit->file.text >= 0 && has_all_crlf(edit->file.text);
-    if (!is_kept || edit->is_resumed) release_file(&edit->file);
+    struct session *session = &edit->session;
+    if (!session_is_none(session) && !keeper_start(edit)) return;
+    /* the keeper has them; the end of a process that has such a file open may wait for its disk */
+    release_file(&edit->file);
+    close_one(&session->source);
+    close_one(&session->text);
+    close_one(&session->journal);
+    close_one(&session->lock);
 }
 
 static void on_journal(void *whose, bool is_kept) {
     struct edit *edit = whose;
     edit->facts.is_journal_lost = !is_kept;
+    keeper_note_journal(is_kept);
 }
 
-/* A successful save replaces FILE by a new file. The session records that file, by which it is found later. */
 static void on_saved(void *whose) {
     struct edit *edit = whose;
-    struct file_stamp stamp;
     if (saver_cause(&edit->saver) != 0) return;
     edit->was_saved = true;
-    if (session_is_none(&edit->session) || !saver_stamp(&edit->saver, &stamp, &edit->target.id)) return;
-    edit->target.is_there = stamp.is_there;
-    session_note_file(&edit->session, &edit->target);
-}
-
-/* The probable reason why the program cannot write the journal. */
-static enum notice cause_of_loss(const struct session *session) {
-    if (free_room(session->folder) < ROOM_FOR_KEYS) return NOTICE_NO_SPACE;
-    int file = openat(session->folder, part_name(PART_JOURNAL), O_WRONLY | O_APPEND | O_NOFOLLOW | O_CLOEXEC);
-    enum notice notice = file < 0 ? notice_of(errno) : NOTICE_UNKEPT;
-    if (file >= 0) close(file);
-    return notice == NOTICE_FOLDER_GONE ? NOTICE_UNKEPT : notice;
+    keeper_note_save();
 }
 
 /* Shows in the title and the last row why no copy is kept, or that one is kept again, and rings the bell for a new cause. A notice
  * that a key has hidden is shown again. */
 static void tell_trouble(struct edit *edit) {
-    struct session *session = &edit->session;
     struct now_facts *facts = &edit->facts;
-    facts->keeping = session_mind(session);
-    facts->error = session->error;
-    facts->is_filled = session->is_filled;
-    if (facts->is_filled) release_file(&edit->file);
-    if (facts->is_journal_lost) facts->journal = cause_of_loss(session);
+    keeper_hear(facts);
     enum notice trouble = trouble_now(facts);
     edit->notice.is_new = trouble != facts->told;
     edit->notice.is_typed_since = was_typed() || edit->notice.is_typed_since;
@@ -305,7 +292,7 @@ static void tell_trouble(struct edit *edit) {
     edit->notice = (struct notice_facts){0};
 }
 
-/* For struct run: looks after the session, and returns whether the program shall try its journal again. */
+/* For struct run: tells what the keeper has found, and returns whether the program shall try its journal again. */
 static bool on_second(void *whose) {
     struct edit *edit = whose;
     if (edit->facts.has_session) tell_trouble(edit);
@@ -330,7 +317,7 @@ static void begin_saves(struct edit *edit) {
     if (!saver_open(&edit->saver, &edit->file)) tell_no_memory();
     edit->saver.is_itself = edit->is_itself;
     if (session_is_none(&edit->session)) return;
-    edit->saver.lock = edit->session.lock;
+    edit->saver.lock = edit->session.folder;
     edit->saver.boot = this_process()->boot;
     if (edit->is_in_place) edit->saver.backup_folder = edit->session.folder;
 }
@@ -361,7 +348,7 @@ int run_session(struct edit *edit) {
     if (notice != NOTICE_NONE) give_notice(notice);
     enum run_end end = run_program(program);
     is_telling_limited = true;
-    if (end == RUN_ENDED) return end_session(edit);
+    if (end == RUN_ENDED) return keeper_end(edit);
     warn("the editor could not be started: %s", program->cause);
     if (!edit->is_resumed && !session_is_none(&edit->session)) session_remove(&edit->session);
     return STATUS_FAULT;

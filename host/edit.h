@@ -46,8 +46,6 @@ struct edit {
     const char *moved;
     /* FILE's permissions as the recovered session recorded them, if FILE is gone; else -1. */
     int lost_mode;
-    /* Without a session: whether all line ends of FILE were CR LF when it was opened. */
-    bool had_all_crlf;
 
     struct saver saver;
     struct run run;
@@ -124,6 +122,22 @@ enum replayed compare_text(const struct edit *edit, const struct session *sessio
 
 /* Ends the session after the program's end, and reports what is kept and what is lost. Returns the exit status. */
 int end_session(struct edit *edit);
+
+/* ---- keeper.c: the child that looks after the session and ends it, so that no disk holds up the host */
+
+/* Starts it, once the program has opened the text. It has all that `edit` has, and the host may close its own files. */
+bool keeper_start(struct edit *edit);
+
+/* Tells it that a save has succeeded, and whether the program can write its journal. */
+void keeper_note_save(void);
+void keeper_note_journal(bool is_kept);
+
+/* Takes in what it has reported of the session. */
+void keeper_hear(struct now_facts *facts);
+
+/* Has it end the session, and waits for that: for ever without a signal, but then the user is told what is waited for. Returns the exit
+ * status. */
+int keeper_end(struct edit *edit);
 
 /* ---- ask.c */
 

@@ -163,26 +163,6 @@ static void tell_aside(const struct edit *edit) {
         warn("%s was changed on disk, so the recovered text is in %s", shown(edit->aside_of), shown(edit->file.typed));
 }
 
-/* Whether FILE's text, as it was opened, had CR LF at each line's end. */
-static bool had_all_crlf(const struct edit *edit) {
-    const struct session *session = &edit->session;
-    if (session_is_none(session)) return edit->had_all_crlf;
-    int text = session->text >= 0 ? session->text : session->source;
-    return text >= 0 && has_all_crlf(text);
-}
-
-/* Warns if all of FILE's line ends were CR LF, and a save has left a mixture. */
-static void tell_line_ends(const struct edit *edit) {
-    struct stat look;
-    struct line_ends ends;
-    int file = edit->was_saved && had_all_crlf(edit) ? open_now(edit, &look) : -1;
-    const char *file_name = shown(edit->file.typed);
-    if (file < 0) return;
-    if (read_line_ends(file, &ends) && ends.has_lines && !ends_are_all_crlf(&ends))
-        warn("%s now has mixed line ends, CR LF and LF: perl -pi -e 's/\\r?\\n/\\r\\n/' %s makes all of them CR LF", file_name, file_name);
-    close(file);
-}
-
 /* Repairs FILE after a save into it that was cut off. Returns whether FILE is still torn. */
 static bool mend_now(struct edit *edit) {
     struct mending mending;
@@ -371,7 +351,6 @@ int end_session(struct edit *edit) {
     enum left_how how = left_how(edit->run.said.end, is_refused);
     give_mode(edit);
     tell_aside(edit);
-    tell_line_ends(edit);
     if (!session_is_none(&edit->session)) {
         end_kept(edit, how);
     } else {

@@ -301,17 +301,3 @@ bool session_changed(const struct session *session, struct timespec *time) {
     if (is_seen) *time = found.st_mtim;
     return is_seen;
 }
-
-static void take_ends(void *ends, const char *bytes, size_t size) {
-    ends_more(ends, bytes, size);
-}
-
-bool read_line_ends(int file, struct line_ends *ends) {
-    ends_begin(ends);
-    return read_pieces(file, 0, take_ends, ends) == 0;
-}
-
-bool has_all_crlf(int file) {
-    struct line_ends ends;
-    return read_line_ends(file, &ends) && ends_are_all_crlf(&ends);
-}

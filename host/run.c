@@ -23,7 +23,8 @@
  * IDLE_MS: if nothing follows typed bytes for so long, a key is complete.
  * SILENCE_MS: a program that sends nothing for so long during a save waits for the host's answer.
  * HOLD_MS, LOOK_MS: how long to wait until the program is stopped, and how often to look.
- * STOP_MS: how long the terminal may take to be restored before the host stops. */
+ * STOP_MS: how long the terminal may take to be restored before the host stops.
+ * LATE_MS: after so long without an answer from the program, the user is told what is waited for. */
 enum {
     HAND_ON_MS = 500,
     DEATH_MS = 1000,
@@ -34,6 +35,7 @@ enum {
     SILENCE_MS = 1000,
     HOLD_MS = 200,
     STOP_MS = 1000,
+    LATE_MS = 2000,
     LOOK_MS = 5
 };
 
@@ -54,9 +56,15 @@ static struct {
     /* The program is to be told the window's size; the terminal has hung up; what did not end in time was killed; bytes were typed
      * since the last call of was_typed. */
     bool is_size_owed, is_hung_up, is_killed, is_typed;
+    /* How many bytes the program was given, and how many of them it has taken; when it last took some, or had nothing to take. `is_late`: it
+     * has taken none for so long that the last row says what it waits for. */
+    size_t given, taken;
+    int64_t answered;
+    bool is_late;
     /* Times, 0 for never. `idle`: when to send the idle frame. `second`: the next tick. `dropped`: when a save whose child was killed is
-     * refused, the rest of it having been thrown away. `stop`: when the host stops. `handed_on`, `end`: until when typed bytes are
-     * handed to a program that is to end, and until when it may run. */
+     * refused, the rest of it having been thrown away.
+     * `stop`: when the host stops. `handed_on`, `end`: until when typed bytes are handed to a program that is to end, and until when it
+     * may run. */
     int64_t idle, second, dropped, stop, handed_on, end;
 } now_running = {.pipes = {-1, -1, -1, -1}};
 
@@ -196,11 +204,15 @@ static void mind_terminal(void) {
     mind_size();
 }
 
-/* Whether the program has read all that it was given, and sleeps: it waits for more then, and has painted all. */
-static bool is_program_waiting(void) {
+/* The bytes that the program was given and has not read. */
+static size_t unread(void) {
+    int waiting = 0;
+    return now_running.pipes.keys >= 0 && ioctl(now_running.pipes.keys, FIONREAD, &waiting) == 0 ? (size_t)waiting : 0;
+}
+
+/* Whether the program sleeps, and is not at work. */
+static bool is_program_asleep(void) {
     char path[64], look[512];
-    int given = 0;
-    if (now_running.pipes.keys < 0 || ioctl(now_running.pipes.keys, FIONREAD, &given) != 0 || given > 0) return false;
     snprintf(path, sizeof path, "/proc/%ld/stat", (long)now_running.program);
     int file = open(path, O_RDONLY | O_CLOEXEC);
     ssize_t length = file < 0 ? 0 : read(file, look, sizeof look - 1);
@@ -208,7 +220,39 @@ static bool is_program_waiting(void) {
     look[length > 0 ? length : 0] = 0;
     /* after its name, which may have any letters */
     const char *at = strrchr(look, ')');
-    return at && strncmp(at, ") S", 3) == 0;
+    return at && (strncmp(at, ") S", 3) == 0 || strncmp(at, ") D", 3) == 0);
+}
+
+/* Whether the program has read all that it was given, and sleeps: it waits for more then, and has painted all. */
+static bool is_program_waiting(void) {
+    return now_running.pipes.keys >= 0 && unread() == 0 && is_program_asleep();
+}
+
+/* What the program waits for that does not answer. */
+static const char *cause_of_waiting(void) {
+    if (now_running.saver > 0) return "still saving: the disk does not answer";
+    return is_program_asleep() ? "waiting for the disk that keeps unsaved text" : "the editor is at work";
+}
+
+/* Whether the terminal takes output: the program may wait for it, and in the midst of a sequence. */
+static bool takes_output(void) {
+    struct pollfd wanted = {.fd = terminal_line, .events = POLLOUT};
+    return poll(&wanted, 1, 0) > 0 && wanted.revents == POLLOUT;
+}
+
+/* Tells the user what is waited for, where the program takes nothing that it was given; once it does, it paints anew. Before its first
+ * painting it has taken nothing. */
+static void mind_answer(void) {
+    size_t taken = now_running.given - unread();
+    if (taken != now_running.taken || (taken == now_running.given && now_running.saver <= 0)) {
+        now_running.taken = taken;
+        now_running.answered = now();
+        if (now_running.is_late) now_running.is_size_owed = true;
+        now_running.is_late = false;
+    }
+    if (now_running.is_late || now_running.end != 0 || taken == 0 || now() < now_running.answered + LATE_MS || !takes_output()) return;
+    now_running.is_late = true;
+    show_last_row(cause_of_waiting());
 }
 
 /* Stops the program once it has painted all, or after HOLD_MS: a shell continues the whole job at once, and the program must not paint
@@ -258,17 +302,19 @@ static void mind_idle(void) {
 
 /* Does what is due each second. Any input makes the program try its journal again, so none is sent while it has some to read. */
 static void mind_second(struct run *run) {
-    int waiting = 0;
     if (now() < now_running.second) return;
     now_running.second = now() + SECOND_MS;
     if (!run->on_second || !run->on_second(run->whose)) return;
-    bool is_read = ioctl(now_running.pipes.keys, FIONREAD, &waiting) == 0 && waiting == 0;
-    if (is_read && queue_length(&now_running.queue) == 0) give_notice(NOTICE_NONE);
+    if (unread() == 0 && queue_length(&now_running.queue) == 0) give_notice(NOTICE_NONE);
 }
 
 /* Writes what the program takes. A program that reads no more gets no more. */
 static void mind_queue(void) {
-    if (now_running.pipes.keys >= 0 && !write_queue(&now_running.queue, now_running.pipes.keys)) close_input();
+    size_t before = queue_length(&now_running.queue);
+    if (now_running.pipes.keys < 0) return;
+    bool is_read = write_queue(&now_running.queue, now_running.pipes.keys);
+    now_running.given += before - queue_length(&now_running.queue);
+    if (!is_read) close_input();
 }
 
 /* Kills what did not end in time. Returns false if that was done before and did not help. */
@@ -317,6 +363,7 @@ static void go_on(struct run *run) {
         mind_dropped(run);
         mind_idle();
         mind_queue();
+        mind_answer();
         if (!mind_end(run)) return;
         wait_once(run, next_moment());
     }
@@ -366,6 +413,10 @@ static bool prepare(struct run *run, struct pipes *ends) {
     if (!start_watcher(now_running.pipes.words, run->held)) return false;
     run->cause = "no pipe can be created";
     return open_pipes(&now_running.pipes, ends);
+}
+
+void leave_run(void) {
+    close_pipes(&now_running.pipes);
 }
 
 enum run_end run_program(struct run *run) {

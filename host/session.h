@@ -265,9 +265,6 @@ bool session_changed(const struct session *session, struct timespec *time);
 /* The space that it takes on the disk, in units of 1,024 bytes. */
 uint64_t session_kilobytes(const struct session *session);
 bool session_has_versions(const struct session *session, const char *versions);
-/* Whether all line ends of an open text are CR LF, and it has some. */
-bool has_all_crlf(int file);
-bool read_line_ends(int file, struct line_ends *ends);
 
 /* ---- this process, the clock, what a replay depends on */
 const struct process *this_process(void);

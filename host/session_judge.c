@@ -333,26 +333,6 @@ void count_more(struct key_count *count, const char *bytes, size_t size) {
     for (size_t at = 0; at < size; at++) count_byte(count, (unsigned char)bytes[at]);
 }
 
-/* ---- line ends */
-
-void ends_begin(struct line_ends *ends) {
-    *ends = (struct line_ends){.has_lines = false};
-}
-
-void ends_more(struct line_ends *ends, const char *bytes, size_t size) {
-    for (size_t at = 0; at < size; at++) {
-        if (bytes[at] == '\n') {
-            ends->has_lines = true;
-            if (ends->last != '\r') ends->has_other = true;
-        }
-        ends->last = bytes[at];
-    }
-}
-
-bool ends_are_all_crlf(const struct line_ends *ends) {
-    return ends->has_lines && !ends->has_other;
-}
-
 /* ---- what is kept */
 
 enum keeping judge_keeping(const struct keeping_facts *facts) {

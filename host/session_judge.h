@@ -116,7 +116,7 @@ enum session_state judge_state(const struct state_facts *facts);
 /* Whether a session in this state counts as the file's. */
 bool counts_as_own(enum belonging belonging, enum session_state state);
 
-/* ---- torn files, keys, line ends */
+/* ---- torn files, keys */
 
 /* A file compared with the backup, which has the whole text of a save that overwrites it. TORN: the save was interrupted in it.
  * OTHER: another program has written it. */
@@ -158,15 +158,6 @@ struct key_count {
 };
 void count_begin(struct key_count *count);
 void count_more(struct key_count *count, const char *bytes, size_t size);
-
-/* Whether a text has lines, and all of them end with CR LF; piece by piece. */
-struct line_ends {
-    bool has_lines, has_other;
-    char last;
-};
-void ends_begin(struct line_ends *ends);
-void ends_more(struct line_ends *ends, const char *bytes, size_t size);
-bool ends_are_all_crlf(const struct line_ends *ends);
 
 /* ---- what is kept of a running session */
 

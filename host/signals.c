@@ -36,10 +36,14 @@ int64_t now(void) {
     return (int64_t)at.tv_sec * 1000 + at.tv_nsec / 1000000;
 }
 
-void note_end(int number) {
+void note_end_at(int number, int64_t time) {
     if (end_signal) return;
     end_signal = number;
-    end_time = now();
+    end_time = time;
+}
+
+void note_end(int number) {
+    note_end_at(number, now());
 }
 
 /* The handler of signals that wake the host: it only sets a flag, so that it may come at any moment. */

@@ -185,6 +185,14 @@ void ring(void) {
     show("\a");
 }
 
+void show_last_row(const char *message) {
+    char text[256];
+    struct size size;
+    measure(&size);
+    snprintf(text, sizeof text, "\033[%u;1H\033[0m\033[K%.*s", size.rows, (int)size.columns - 1, message);
+    show(text);
+}
+
 bool is_showing(void) {
     return waiting_length > 0;
 }

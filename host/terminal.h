@@ -57,6 +57,9 @@ void restore_screen(int64_t limit);
 void leave_screen(int64_t limit);
 void enter_screen(void);
 
+/* Shows a message in the last row, in place of what the program painted there, and leaves the cursor behind it. */
+void show_last_row(const char *message);
+
 /* Whether sequences wait to be written to the terminal; writes as much as it takes. A sequence for which there is no room is dropped. */
 bool is_showing(void);
 void go_on_showing(void);

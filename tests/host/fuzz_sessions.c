@@ -61,13 +61,6 @@ static void try_text(const char *text, size_t size) {
     count_more(&parts, text, split);
     count_more(&parts, text + split, size - split);
     require(whole.keys == parts.keys && whole.keys <= size);
-    struct line_ends ends, ends_parts;
-    ends_begin(&ends);
-    ends_begin(&ends_parts);
-    ends_more(&ends, text, size);
-    ends_more(&ends_parts, text, split);
-    ends_more(&ends_parts, text + split, size - split);
-    require(ends_are_all_crlf(&ends) == ends_are_all_crlf(&ends_parts));
 }
 
 /* Half of the bytes beside the other half. */

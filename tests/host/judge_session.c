@@ -350,24 +350,6 @@ static void check_left_files(void) {
     }
 }
 
-/* Whether all line ends of a text are CR LF. The text is taken whole and in two pieces at each offset. */
-static void check_line_ends(void) {
-    static const struct {
-        const char *text;
-        bool is_crlf;
-    } cases[] = {{"", false}, {"a", false}, {"a\n", false}, {"a\r\n", true}, {"a\r\nb", true}, {"\n\r\n", false}, {"a\r\nb\n", false}, {"a\r\n\r\n", true}, {"\r\r\n", true}};
-    for (size_t at = 0; at < sizeof cases / sizeof *cases; at++) {
-        size_t length = strlen(cases[at].text);
-        for (size_t split = 0; split <= length; split++) {
-            struct line_ends ends;
-            ends_begin(&ends);
-            ends_more(&ends, cases[at].text, split);
-            ends_more(&ends, cases[at].text + split, length - split);
-            check(ends_are_all_crlf(&ends) == cases[at].is_crlf, "line ends", cases[at].text);
-        }
-    }
-}
-
 /* ---- a running session */
 
 /* What of a running session is kept, by what is there of its files. */
@@ -417,7 +399,6 @@ int main(void) {
     check_step_words();
     check_left_files();
     check_keys();
-    check_line_ends();
     check_keepings();
     check_notices();
     printf("%d passed, %d failed\n", passed, failed);

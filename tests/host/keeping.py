@@ -3,12 +3,12 @@ begin so. Exit status 1: a case failed."""
 import os, shutil, signal, sys, tempfile
 HERE = os.path.dirname(os.path.abspath(__file__))
 sys.path.insert(0, HERE)
-import keeping_cases, keeping_ends, keeping_files
+import keeping_cases, keeping_ends, keeping_files, keeping_stalls
 from checks import Report, share, try_case
 from keeping_scene import Place
 from terminals import become_reaper
 
-CASES = {case.__name__: case for case in keeping_cases.CASES + keeping_ends.CASES + keeping_files.CASES}
+CASES = {case.__name__: case for case in keeping_cases.CASES + keeping_ends.CASES + keeping_files.CASES + keeping_stalls.CASES}
 
 
 def install(folder, host):

@@ -63,25 +63,6 @@ def other_names(check, place):
     check.holds('what is told after --force', 'saves overwrite it in place' in started.err(), started.err())
 
 
-def line_ends(check, place):
-    """Other line ends than those that FILE had are told."""
-    place.put('a.txt', b'text\r\n')
-    place.edit('a.txt').type(b'x').sees(b'*').type(SAVE).sees(b'saved').type(QUIT).ends(0)
-    started = place.edit('a.txt').type(b'x').sees(b'*').type(SAVE).sees(b'saved')
-    with open(place.path('a.txt'), 'ab') as file:
-        file.write(b'more\n')
-    started.type(QUIT).ends(0)
-    told = "bidi-edit: a.txt now has mixed line ends, CR LF and LF: perl -pi -e 's/\\r?\\n/\\r\\n/' a.txt makes all of them CR LF\n"
-    check.same('what is told', started.err(), told)
-    place.put('a.txt', b'text\r\n')
-    os.link(place.path('a.txt'), place.path('b.txt'))
-    started = place.edit('-n', '--force', 'a.txt').type(b'x').sees(b'*').type(SAVE).sees(b'saved')
-    with open(place.path('a.txt'), 'ab') as file:
-        file.write(b'more\n')
-    started.type(QUIT).ends(0)
-    check.holds('what is told without a session', started.err().endswith(told), started.err())
-
-
 def remove_at_once(folder, place):
     """Takes a folder away in one step, since parts of it that are missing are made again."""
     place.count += 1
@@ -271,5 +252,5 @@ def replaced_on_full_disk(check, place):
         subprocess.run(['umount', disk])
 
 
-CASES = [saved, killed, killed_host, slow_syncs, replaced_on_full_disk, no_keys, other_names, line_ends, folder_gone, parts_gone, journal_lost, folder_renamed,
+CASES = [saved, killed, killed_host, slow_syncs, replaced_on_full_disk, no_keys, other_names, folder_gone, parts_gone, journal_lost, folder_renamed,
          working_folder_gone, no_folder, long_folder, pipe_in_its_place]

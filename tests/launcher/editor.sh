@@ -60,7 +60,7 @@ check_edit() {
     same 'edit, files beside it' "$(ls)" note
 }
 
-# Enter puts in the line end that the text has. The host tells of a file whose line ends are no longer alike after the session.
+# Enter puts in the line end that the text has. Ctrl-J inserts LF in any text.
 check_line_ends() {
     printf 'ab\r\ncd\r\nef' >note
     start 8 40 "$top/bidi-edit" note
@@ -75,10 +75,8 @@ check_line_ends() {
     part_reads
     type_keys C-q
     finish 'breaks, mixed' 0 50
-    same 'breaks, mixed: the words' "$(cat "$folder/errors")" \
-        "bidi-edit: note now has mixed line ends, CR LF and LF: perl -pi -e 's/\\r?\\n/\\r\\n/' note makes all of them CR LF"
-    perl -pi -e 's/\r?\n/\r\n/' note
-    same 'breaks, what it says' "$(od -An -c note | tr -d ' \n')" '\r\nx\r\nab\r\ncd\r\nef'
+    same 'breaks, mixed: the words' "$(cat "$folder/errors")" ''
+    same 'breaks, mixed: what Ctrl-J inserts' "$(od -An -c note | tr -d ' \n')" '\nx\r\nab\r\ncd\r\nef'
     printf 'ab\ncd\r\n' >note
     start 8 40 "$top/bidi-edit" note
     type_keys Enter C-s
