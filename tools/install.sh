@@ -42,7 +42,10 @@ refuse() { # CAUSE
 
 find_programs() {
     if is_built bidi_edit; then take_built; return; fi
-    take_ready || refuse "${cause:-there is no dist/ to take them from}; tools/launcher/proving/prove.sh . bidi_edit builds the editor"
+    take_ready && return
+    # another status was told
+    [ $? = 1 ] || exit 1
+    refuse "${cause:-there is no dist/ to take them from}; tools/launcher/proving/prove.sh . bidi_edit builds the editor"
 }
 
 # ---- the record: a line `SUM PATH` for each file, `folder PATH` for each folder created, with paths below PREFIX
@@ -64,7 +67,7 @@ is_as_put() { # PATH
 new_folders() {
     while read -r path; do
         case $is_old:$path in
-        1:*/bidi_edit | 1:*/bidi_edit/*) echo "$path" ;;
+        1:*/bidi[_-]edit | 1:*/bidi[_-]edit/*) echo "$path" ;;
         *) [ -d "$prefix/$path" ] || echo "$path" ;;
         esac
     done <"$beside/folders"

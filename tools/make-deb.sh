@@ -35,16 +35,28 @@ need_proved() {
     done
 }
 
-# Takes the programs. The host of dist/ is the same on every machine, if it is of the sources in host/.
+# Compiles the host, without what only a debugger needs.
+compile_host() {
+    sh "$top/host/build.sh" into "$folder/compiled" || refuse 'the host cannot be compiled'
+    host=$folder/compiled/bidi-edit
+    ! command -v strip >/dev/null || strip --remove-section=.comment --remove-section=.note "$host"
+}
+
+# Takes the programs of dist/, as take_ready does, without the folder that they run from. Status 1: they do not belong to the sources, as
+# `cause` says.
+take_archive() {
+    cause=''
+    [ -f "$top/dist/SOURCES" ] && suits || return
+    start=$folder/start programs='bidi_edit bidi_print'
+    mkdir -p "$start/lib/bidi_edit"
+    tar -xzof "$top/dist/$dist_archive" -C "$start/lib/bidi_edit" || refuse "dist/$dist_archive cannot be unpacked"
+}
+
+# Takes the programs. The host of dist/ has the same bytes on every machine, if it is of the sources in host/.
 find_programs() {
-    if take_ready; then
-        [ "$(host_digest)" != "$(noted host)" ] || host=$start/lib/bidi_edit/host
-    else
-        need_proved
-        take_built
-    fi
-    # without what only a debugger needs
-    if [ "$host" != "$start/lib/bidi_edit/host" ] && strip -o "$folder/host" "$host" 2>/dev/null; then host=$folder/host; fi
+    take_archive || { need_proved && take_built; }
+    host=$start/lib/bidi_edit/host
+    if [ -z "$start" ] || [ "$(host_digest)" != "$(noted host)" ]; then compile_host; fi
 }
 
 # Sets the times of all files.
@@ -87,13 +99,26 @@ END
     (cd "$package" && find usr -type f -print0 | sort -z | xargs -0 md5sum) >"$package/DEBIAN/md5sums"
 }
 
+# Prints an entry of Debian's changelog.
+tell_package() { # VERSION DATE
+    printf 'bidi-edit (%s-1) unstable; urgency=low\n\n  * Version %s, as changelog.gz describes it.\n\n -- %s  %s\n\n' "$1" "$1" "$author" \
+        "$(TZ=UTC0 date -R -d "$2")"
+}
+
+# Prints Debian's changelog: this package, and before it the releases that CHANGELOG.md names with their days.
+list_packages() {
+    tell_package "$version" "@$SOURCE_DATE_EPOCH"
+    sed -n 's/^## \([0-9.]*\), \([0-9-]*\).*/\1 \2/p' "$top/CHANGELOG.md" | while read -r release day; do
+        [ "$release" = "$version" ] || [ -z "$day" ] || tell_package "$release" "$day"
+    done
+}
+
 # Writes the package's copyright and changelogs.
 make_documents() {
     documents=$package/usr/share/doc/bidi-edit
     awk -v source="the repository bidi_edit${commit:+, commit $commit}" -f "$top/tools/package/copyright.awk" "$top/NOTICE" >"$documents/copyright"
     gzip -9n <"$top/CHANGELOG.md" >"$documents/changelog.gz"
-    printf 'bidi-edit (%s-1) unstable; urgency=low\n\n  * Version %s.\n\n -- %s  %s\n' "$version" "$version" "$author" "$(TZ=UTC0 date -R -d "@$SOURCE_DATE_EPOCH")" |
-        gzip -9n >"$documents/changelog.Debian.gz"
+    list_packages | gzip -9n >"$documents/changelog.Debian.gz"
 }
 
 # Makes the package. Its tree is that of install.sh, with the manual compressed and the scripts of shells where Debian has them.

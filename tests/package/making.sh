@@ -6,14 +6,16 @@
 # programs are those of dist/.
 make_sources() {
     source=$folder/source
+    # no release that CHANGELOG.md names is later
+    commit_time=$(git -C "$top" log -1 --format='%ct +0200')
     mkdir "$source"
     (cd "$top" && git ls-files -z | xargs -0 tar -cf - 2>/dev/null) | tar -xf - -C "$source"
     (
         export GIT_AUTHOR_NAME=Somebody GIT_AUTHOR_EMAIL=somebody@example.org GIT_COMMITTER_NAME=Somebody GIT_COMMITTER_EMAIL=somebody@example.org
-        export GIT_AUTHOR_DATE='1790000000 +0200' GIT_COMMITTER_DATE='1790000000 +0200' GIT_CONFIG_GLOBAL=/dev/null
+        export GIT_AUTHOR_DATE="$commit_time" GIT_COMMITTER_DATE="$commit_time" GIT_CONFIG_GLOBAL=/dev/null
         cd "$source" && git init -q && git add -A -f && git commit -q -m 'The sources' && git archive --prefix=tarball/ HEAD | tar -xf - -C "$folder"
     )
-    digest=$(git -C "$source" rev-parse HEAD | cut -c 1-8)
+    digest=$(git -C "$source" rev-parse HEAD | cut -c 1-8) day=$(date -u -d "@${commit_time% *}" +%Y%m%d)
 }
 
 # Makes both files. Its messages go to `said`, its status to `status`.
@@ -29,7 +31,7 @@ make_files() { # SOURCE FOLDER [VARIABLE=VALUE..]
 make_first() {
     make_files "$source" "$folder/first"
     report 'making, status' "$status" "$(cat "$folder/said")"
-    version=$(sed -n 's/^## \([0-9.]*\), unreleased$/\1~git20260921.'"$digest"'/p; t end; s/^## \([0-9.]*\), .*/\1/p; t end; d; :end; q' "$source/CHANGELOG.md")
+    version=$(sed -n 's/^## \([0-9.]*\), unreleased$/\1~git'"$day.$digest"'/p; t end; s/^## \([0-9.]*\), .*/\1/p; t end; d; :end; q' "$source/CHANGELOG.md")
     deb=$folder/first/bidi-edit_$version-1_amd64.deb tar=$folder/first/bidi-edit_${version}_amd64.tar.gz
     same 'making, the names' "$(cd "$folder/first" && echo *)" "${deb##*/} ${tar##*/}"
     mkdir "$folder/unpacked" "$folder/tree"

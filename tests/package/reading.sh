@@ -4,7 +4,7 @@
 
 check_lintian() { # NAME
     has_tool "$1" lintian || return 0
-    same "$1" "$(lintian --allow-root --pedantic --display-info "$deb" 2>&1)" ''
+    same "$1" "$(lintian --allow-root --pedantic "$deb" 2>&1)" ''
 }
 
 # The manual, by two readers of manuals, its version, and how it is found.
@@ -13,7 +13,7 @@ check_manual() { # NAME
     ! has_tool "$1, man" man || same "$1, man" "$(man --warnings -l "$manual" 2>&1 >/dev/null)" ''
     ! has_tool "$1, mandoc" mandoc || same "$1, mandoc" "$(mandoc -T lint "$manual" 2>&1)" ''
     same "$1, its version" "$(sed -n '1s/.*"bidi_edit \([^"]*\)".*/\1/p' "$manual")" "$version"
-    same "$1, its day" "$(sed -n '1s/^.TH BIDI_EDIT 1 \([^ ]*\) .*/\1/p' "$manual")" "$(date -u -d "@$(git -C "$source" log -1 --format=%ct)" +%Y-%m-%d)"
+    same "$1, its day" "$(sed -n '1s/^.TH BIDI_EDIT 1 \([^ ]*\) .*/\1/p' "$manual")" "$(date -u -d "$day" +%Y-%m-%d)"
     for word in Hebrew Arabic bidirectional; do
         sed -n '/^.SH NAME/,/^.SH SYNOPSIS/p' "$manual" | grep -q "$word"
         report "$1, apropos $word" $? 'the section NAME lacks it'
@@ -28,12 +28,11 @@ check_files() { # NAME
     same "$1, the package's documents" "$(cd "$folder/unpacked/usr/share/doc/bidi-edit" && echo *)" 'NOTICE bidi-edit.spdx.json changelog.Debian.gz changelog.gz copyright'
     same "$1, the changes" "$(gzip -dc "$folder/unpacked/usr/share/doc/bidi-edit/changelog.gz")" "$(cat "$top/CHANGELOG.md")"
     same "$1, the owners" "$(dpkg-deb -c "$deb" | awk '{ print $2 }' | sort -u)" root/root
-    same "$1, the times" "$(dpkg-deb -c "$deb" | awk '{ print $4, $5 }' | sort -u)" "$(date -d "@$(git -C "$source" log -1 --format=%ct)" '+%Y-%m-%d %H:%M')"
+    same "$1, the times" "$(dpkg-deb -c "$deb" | awk '{ print $4, $5 }' | sort -u)" "$(date -d "@${commit_time% *}" '+%Y-%m-%d %H:%M')"
     same "$1, the modes" "$(cd "$folder/unpacked" && find . ! -type l ! -perm 755 ! -perm 644)" ''
-    ! has_tool "$1, the programs" sha256sum ||
-        for name in bidi_edit bidi_print; do
-            same "$1, $name is that of dist/" "$(sha256sum <"$folder/unpacked/usr/lib/bidi_edit/$name" | cut -c 1-64)" "$(noted program "$name")"
-        done
+    for name in bidi_edit bidi_print; do
+        same "$1, $name is that of dist/" "$(sha256sum <"$folder/unpacked/usr/lib/bidi_edit/$name" | cut -c 1-64)" "$(noted program "$name")"
+    done
 }
 
 # The list of parts, by the rules of SPDX and by the crates that are linked.

@@ -22,14 +22,14 @@ take_built() {
     for name in bidi_edit bidi_print; do
         ! is_built "$name" || programs="$programs $name"
     done
-    start='' origin='built here'
+    start=''
 }
 
 # The same, to those of dist/ and the host compiled from host/, and `start` to their folder. Status 1: they do not belong to the
 # sources, as `cause` says.
 take_ready() {
     find_start thoroughly || return
-    programs='bidi_edit bidi_print' host=$start/bin/bidi-edit origin='those of dist/'
+    programs='bidi_edit bidi_print' host=$start/bin/bidi-edit
 }
 
 # The path of a program that was taken.
@@ -48,7 +48,8 @@ put() { # MODE SOURCE PATH
 put_manual() {
     mkdir -p -- "$tree/share/man/man1"
     day=${seconds:+$(TZ=UTC0 date -d "@$seconds" +%Y-%m-%d)}
-    sed "1s/^\(.TH BIDI_EDIT 1\) \([^ ]*\) .*/\1 ${day:-\2} \"bidi_edit $version\" \"User commands\"/" "$top/docs/bidi_edit.1" >"$tree/share/man/man1/bidi_edit.1"
+    sed "1s/^\(.TH BIDI_EDIT 1\) \([^ ]*\) .*/\1 ${day:-\2} \"bidi_edit $version\" \"User commands\"/" "$top/docs/bidi_edit.1" >"$tree/share/man/man1/bidi_edit.1" ||
+        refuse "the manual cannot be copied"
     chmod 644 "$tree/share/man/man1/bidi_edit.1"
     echo '.so man1/bidi_edit.1' >"$tree/share/man/man1/bidi-edit.1"
 }
