@@ -63,10 +63,10 @@ static struct {
     int64_t answered;
     bool is_late;
     /* Times, 0 for never. `idle`: when to send the idle frame. `second`: the next tick. `dropped`: when a save whose child was killed is
-     * refused, the rest of it having been thrown away.
+     * refused, the rest of it having been thrown away. `left`: when a save that was given up is left even if its child does not end.
      * `stop`: when the host stops. `handed_on`, `end`: until when typed bytes are handed to a program that is to end, and until when it
      * may run. */
-    int64_t idle, second, dropped, stop, handed_on, end;
+    int64_t idle, second, dropped, left, stop, handed_on, end;
 } now_running = {.pipes = {-1, -1, -1, -1}};
 
 void give_notice(enum notice notice) {
@@ -143,6 +143,22 @@ static void mind_ctrl_c(struct run *run, const unsigned char *bytes, size_t leng
     if (!run->said.is_opened) note_end(SIGINT);
 }
 
+/* Ctrl-C gives up a save that the user was told is waited for. The child is killed, and what the program still sends is dropped. Returns
+ * whether the bytes have this key, which is then no key for the program. */
+static bool gives_up_save(const unsigned char *bytes, size_t length) {
+    if (!now_running.is_late || now_running.saver <= 0 || !memchr(bytes, CTRL_C, length)) return false;
+    kill(now_running.saver, SIGKILL);
+    now_running.left = now() + DYING_MS;
+    return true;
+}
+
+/* Leaves a save whose child was killed and is held by the kernel. */
+static void mind_left(void) {
+    if (now_running.left == 0 || (now_running.saver > 0 && now() < now_running.left)) return;
+    if (now_running.saver > 0) now_running.dropped = now() + SILENCE_MS;
+    now_running.left = now_running.saver = watched->saver = 0;
+}
+
 /* Reads the terminal. What is typed after the end is dropped. */
 static void read_typing(struct run *run) {
     unsigned char bytes[TYPED_PIECE];
@@ -151,7 +167,7 @@ static void read_typing(struct run *run) {
     if (count <= 0) return;
     follow_paste(&watched->paste, bytes, (size_t)count);
     mind_ctrl_c(run, bytes, (size_t)count);
-    if (now_running.end != 0 || end_signal) return;
+    if (now_running.end != 0 || end_signal || gives_up_save(bytes, (size_t)count)) return;
     put_frame(&now_running.queue, FRAME_TYPED, bytes, (size_t)count);
     now_running.idle = now() + IDLE_MS;
     now_running.is_typed = true;
@@ -231,7 +247,7 @@ static bool is_program_waiting(void) {
 
 /* What the program waits for that does not answer. */
 static const char *cause_of_waiting(void) {
-    if (now_running.saver > 0) return "still saving: the disk does not answer";
+    if (now_running.saver > 0) return "still saving: the disk does not answer (^C gives the save up)";
     return is_program_asleep() ? "waiting for the disk that keeps unsaved text" : "the editor is at work";
 }
 
@@ -347,7 +363,7 @@ static bool mind_end(const struct run *run) {
 
 /* The time of the next thing to do that no file or signal will wake the host for. */
 static int64_t next_moment(void) {
-    int64_t moments[] = {now_running.end, now_running.dropped, now_running.end == 0 ? now_running.stop : 0,
+    int64_t moments[] = {now_running.end, now_running.dropped, now_running.left, now_running.end == 0 ? now_running.stop : 0,
                          now_running.pipes.keys >= 0 ? now_running.handed_on : 0, takes_typing() ? now_running.idle : 0};
     int64_t next = now_running.second;
     for (size_t i = 0; i < sizeof moments / sizeof *moments; i++)
@@ -361,6 +377,7 @@ static void go_on(struct run *run) {
         mind_stop();
         mind_terminal();
         mind_second(run);
+        mind_left();
         mind_dropped(run);
         mind_idle();
         mind_queue();

@@ -90,4 +90,48 @@ def sessions_go_on(check, place):
     check.same('FILE', place.text('a.txt'), b'abcdetext\n')
 
 
-CASES = [sessions_stall, sessions_go_on]
+@needs('root')
+def saves_stall(check, place):
+    """The disk of FILE stalls in a save: Ctrl-C leaves it, it is told as not saved, and keys go on; the end waits, and Ctrl-C ends that."""
+    for way in WAYS:
+        with Disk(f'{place.top}/disk.{way}') as disk:
+            started = edit_on(place, disk)
+            disk.tell(way)
+            started.type(SAVE).sees(b'^C gives the save up', 5).type(CTRL_C).sees(b'failed', 5)
+            started.type(b'd').sees(b'text <abcdold|> *').type(QUIT)
+            check.holds(f'{way}: the terminal', started.run.pump(5, PLAIN), started.run.output)
+            time.sleep(3)
+            check.holds(f'{way}: what is told', 'waiting for a disk that does not answer: Ctrl-C ends this' in started.err(), started.err())
+            started.type(CTRL_C)
+            ends_soon(check, f'{way}, Ctrl-C', started, disk, -signal.SIGINT)
+            check.holds(f'{way}: what is kept', 'bidi-edit --recover' in started.err(), started.err())
+
+
+@needs('root')
+def slow_saves(check, place):
+    """The disk of FILE answers again in a save: it is saved, and without that Ctrl-C is a key."""
+    with Disk(f'{place.top}/disk') as disk:
+        started = edit_on(place, disk)
+        disk.tell('stall')
+        started.type(SAVE).sees(b'^C gives the save up', 5)
+        disk.tell('go')
+        started.sees(b'saved').type(CTRL_C + b'd').sees(b'text <abcdold|> *').type(SAVE).sees(b'saved').type(QUIT).ends(0)
+        with open(f'{disk.folder}/note', 'rb') as file:
+            check.same('FILE', file.read(), b'abcdold\n')
+
+
+@needs('root')
+def ends_stall(check, place):
+    """The disk of FILE stalls before the end: the terminal is restored, and a signal ends the host, before the end and in it."""
+    for way, number, is_quit in (('stall', signal.SIGHUP, False), ('deaf', signal.SIGHUP, False), ('deaf', signal.SIGTERM, True)):
+        with Disk(f'{place.top}/disk.{way}.{number}') as disk:
+            started = edit_on(place, disk)
+            disk.tell(way)
+            if is_quit:
+                started.type(QUIT)
+                check.holds(f'{way}: the terminal', started.run.pump(5, PLAIN), started.run.output)
+            os.kill(started.run.job, number)
+            ends_soon(check, f'{way}, {number}', started, disk, -number)
+
+
+CASES = [sessions_stall, sessions_go_on, saves_stall, slow_saves, ends_stall]
