@@ -112,9 +112,7 @@ static enum mended put_back(const struct session *session, const struct target *
 
 /* Whether the session's saves overwrite FILE, under any of its names. */
 static bool saves_into(const struct session *session, const struct target *target) {
-    const struct about *about = &session->about;
-    if (!session_has_mark(session, MARK_IN_PLACE) || !target->is_there) return false;
-    return strcmp(about->path, target->path) == 0 || (about->has_id && is_surely_same_id(&about->id, &target->id));
+    return session_has_mark(session, MARK_IN_PLACE) && (strcmp(session->about.path, target->path) == 0 || session_is_of_file(session, target));
 }
 
 /* Whether another session than `but` overwrites FILE and may be running: then that one will complete FILE. */

@@ -221,6 +221,8 @@ bool old_is_locked(int folder);
 struct found {
     struct session live, elsewhere, unfinished, dropped;
 };
+/* Whether the session opened or saved this very file, under any name. */
+bool session_is_of_file(const struct session *session, const struct target *target);
 /* Finds them in the folder of sessions (in any state). Removes sessions of FILE without unsaved text, and what killed starts left. Returns the
  * fault if the folder cannot be read. */
 enum cause sessions_of(struct found *found, const struct sessions *sessions, const struct target *target);

@@ -95,8 +95,8 @@ bool is_same_id(const struct file_id *one, const struct file_id *other) {
 }
 
 bool is_surely_same_id(const struct file_id *one, const struct file_id *other) {
-    if (!one->has_birth || !other->has_birth) return is_same_id(one, other) && one->has_birth == other->has_birth;
-    return one->inode == other->inode && one->birth_seconds == other->birth_seconds && one->birth_nanos == other->birth_nanos;
+    return one->has_birth && other->has_birth && one->inode == other->inode && one->birth_seconds == other->birth_seconds &&
+           one->birth_nanos == other->birth_nanos;
 }
 
 bool process_of(const char *words, struct process *process) {

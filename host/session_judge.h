@@ -34,8 +34,8 @@ struct file_id {
 };
 bool file_id_of(const char *words, struct file_id *id);
 void words_of_file_id(const struct file_id *id, char words[MOST_WORDS]);
-/* Whether both are one file now; and whether they are, if one of them was recorded long ago. Some disks get another device number with
- * each mount, so that does not count where the times of birth are known. */
+/* Whether both are one file now; and whether they certainly are, though one of them was recorded long ago. Some disks get another device
+ * number with each mount, so for that only inode and birth count. */
 bool is_same_id(const struct file_id *one, const struct file_id *other);
 bool is_surely_same_id(const struct file_id *one, const struct file_id *other);
 

@@ -209,14 +209,23 @@ void target_look(struct target *target, const char *path, int folder, const char
     target->is_there = folder >= 0 && file_id_at(folder, name, &target->id);
 }
 
-/* How a session belongs to FILE. No other file's path is looked at, since that one's disk may not answer: only the file beside FILE, on
- * FILE's own disk. */
+bool session_is_of_file(const struct session *session, const struct target *target) {
+    struct file_id id;
+    const struct about *about = &session->about;
+    if (!about->has_id || !target->is_there) return false;
+    if (is_surely_same_id(&about->id, &target->id)) return true;
+    /* without times of birth, the number may be that of another file by now */
+    bool may_be_same = is_same_id(&about->id, &target->id) && !(about->id.has_birth && target->id.has_birth);
+    return may_be_same && file_id_at(AT_FDCWD, about->path, &id) && is_same_id(&id, &target->id);
+}
+
+/* How a session belongs to FILE. No path on another disk than FILE's is looked at, since that disk may not answer. */
 static enum belonging belonging_of(const struct session *session, const struct target *target) {
     struct stat found;
     const struct about *about = &session->about;
     struct belonging_facts facts = {.is_path = strcmp(about->path, target->path) == 0,
                                     .is_beside = about->beside[0] && strcmp(about->beside, target->path) == 0,
-                                    .is_file = about->has_id && target->is_there && is_surely_same_id(&about->id, &target->id)};
+                                    .is_file = session_is_of_file(session, target)};
     facts.has_beside = facts.is_path && about->beside[0] && lstat(about->beside, &found) == 0;
     return judge_belonging(&facts);
 }
