@@ -37,8 +37,8 @@ int find_file(struct edit *edit, const char *typed, bool is_lost) {
     }
     const struct file *file = &edit->file;
     sessions_find(&edit->sessions);
-    edit->target = (struct target){.path = file->path, .folder = -1, .name = file->name};
-    if (!file->is_lost) target_look(&edit->target, file->path, file->folder, file->name);
+    edit->target = (struct target){.path = file->path, .folder = file->is_lost ? -1 : file->folder, .name = file->name,
+                                   .is_there = file->stamp.is_there && file->itself >= 0, .id = file->id};
     edit->reason = find_in_place(&file->facts, &file->stamp, &file->folder_facts);
     return GO_ON;
 }

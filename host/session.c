@@ -122,8 +122,7 @@ char *read_short(int folder, const char *name, size_t *size) {
 /* Creates or replaces a file by way of a draft. Synced, unless the session is hasty. */
 static int put_file(const struct session *session, const char *name, const void *bytes, size_t size) {
     int folder = session->folder;
-    unlinkat(folder, ABOUT_DRAFT_NAME, 0);
-    int file = part_open(folder, ABOUT_DRAFT_NAME, O_WRONLY | O_CREAT | O_EXCL);
+    int file = part_open(folder, ABOUT_DRAFT_NAME, O_WRONLY | O_CREAT | O_TRUNC);
     if (file < 0) return errno;
     int error = write_bytes(file, bytes, size);
     if (!error && !session->is_hasty) error = sync_file(file);
@@ -183,7 +182,7 @@ static bool make_session_name(char name[64]) {
     static const char alphabet[] = "abcdefghijklmnopqrstuvwxyz234567";
     struct timespec now;
     struct tm parts;
-    if (clock_gettime(CLOCK_REALTIME, &now) != 0 || !localtime_r(&now.tv_sec, &parts)) return false;
+    if (clock_gettime(CLOCK_REALTIME, &now) != 0 || !gmtime_r(&now.tv_sec, &parts)) return false;
     size_t length = strftime(name, 32, "%Y%m%d%H%M%S.", &parts);
     return make_letters(name + length, NAME_LETTERS, alphabet) && kind_of_name(name) == NAME_SESSION;
 }
