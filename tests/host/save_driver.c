@@ -167,17 +167,17 @@ int main(int count, char **words) {
     }
     fcntl(pipes[0][1], F_SETFL, O_NONBLOCK);
     request = pipes[0][0], to_child = pipes[0][1], from_child = pipes[1][0], answer = pipes[1][1];
-    const char *message = is_lost ? open_lost_file(&file, words[at]) : open_file(&file, words[at]);
+    enum cause cause = is_lost ? open_lost_file(&file, words[at]) : open_file(&file, words[at]);
     bool is_in_place = find_in_place(&file.facts, &file.stamp, &file.folder_facts) != NO_REASON;
-    if (!message && !is_forced) message = refuse_access(&file, is_in_place);
-    if (message) {
-        printf("%s\n", message);
+    if (cause == CAUSE_NONE && !is_forced) cause = check_access_to(&file, is_in_place);
+    if (cause != CAUSE_NONE) {
+        printf("%s\n", file_message(&file, cause, 0));
         return 1;
     }
     if (!saver_open(&saver, &file)) die("saver");
     saver.backup_folder = backup;
     saver.is_itself = is_itself;
-    message = leftovers_line(&file);
+    const char *message = leftovers_line(&file);
     printf("opened %s%s%s\n", file.path, message ? ": " : "", message ? message : "");
     fflush(stdout);
     char line[8192];
