@@ -174,8 +174,8 @@ static bool split(const char *path, char folder[PATH_MAX], char name[PATH_MAX]) 
 /* Whether a path names a descriptor that a caller handed over, as a shell does for `<(..)`; CAUSE_NONE if not. */
 static enum cause check_handed_over(const char *path) {
     const char *name = strrchr(path, '/');
-    bool is_own = strncmp(path, "/proc/", 6) == 0 && strstr(path + 6, "/fd/");
-    if (!name || (!is_own && strncmp(path, "/dev/std", 8) != 0 && strncmp(path, "/dev/fd/", 8) != 0)) return CAUSE_NONE;
+    bool is_proc = strncmp(path, "/proc/", 6) == 0 && strstr(path + 6, "/fd/");
+    if (!name || (!is_proc && strncmp(path, "/dev/std", 8) != 0 && strncmp(path, "/dev/fd/", 8) != 0)) return CAUSE_NONE;
     return strcmp(name, "/stdin") == 0 || strcmp(name, "/0") == 0 ? CAUSE_STANDARD_INPUT : CAUSE_DESCRIPTOR;
 }
 

@@ -161,9 +161,10 @@ static _Noreturn void end(struct save *save, enum cause cause) {
 
 /* Adds bytes to the text. */
 static void add(struct save *save, const unsigned char *bytes, size_t length) {
+    if (length == 0 || save->is_cut) return;
     if (save->length + length > save->room) {
         size_t room = save->room > 0 ? 2 * save->room : FIRST_ROOM;
-        unsigned char *more = save->is_cut ? NULL : realloc(save->bytes, room);
+        unsigned char *more = realloc(save->bytes, room);
         save->is_cut = !more;
         if (!more) return;
         save->bytes = more;

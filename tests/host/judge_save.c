@@ -115,33 +115,33 @@ static void check_modes(void) {
 
 /* ---- file stamps */
 
-/* The letter tells what another program did to the file that was seen: see `change`. The third word: what is found; and whether an exchange took out what was
- * seen. */
+/* The letter tells what another program did to the file that was seen: see `change`. `wanted`: what is found; and whether an exchange took
+ * out what was seen. */
 static const struct {
     const char *name;
-    char change;
     enum stamp_verdict wanted;
+    char change;
     bool is_taken_out;
 } changes[] = {
-    {"nothing", '=', STAMP_SAME, true},
-    {"gone", '-', STAMP_GONE, false},
-    {"another device", 'd', STAMP_CHANGED, false},
-    {"another inode", 'i', STAMP_CHANGED, false},
-    {"another size", 's', STAMP_CHANGED, false},
-    {"another second", 't', STAMP_CHANGED, false},
-    {"another nanosecond", 'n', STAMP_CHANGED, false},
-    {"another time of change", 'c', STAMP_CHANGED, true},
-    {"another nanosecond of change", 'C', STAMP_CHANGED, true},
-    {"another mode", 'm', STAMP_CHANGED, false},
-    {"another owner", 'u', STAMP_CHANGED, false},
-    {"another group", 'g', STAMP_CHANGED, false},
-    {"another name", 'l', STAMP_CHANGED, false},
-    {"read", 'a', STAMP_SAME, true},
-    {"a link in its place", 'L', STAMP_CHANGED, false},
-    {"a folder in its place", 'D', STAMP_NOT_PLAIN, false},
-    {"a pipe in its place", 'P', STAMP_NOT_PLAIN, false},
-    {"a device in its place", 'V', STAMP_NOT_PLAIN, false},
-    {"a socket in its place", 'S', STAMP_NOT_PLAIN, false},
+    {"nothing", STAMP_SAME, '=', true},
+    {"gone", STAMP_GONE, '-', false},
+    {"another device", STAMP_CHANGED, 'd', false},
+    {"another inode", STAMP_CHANGED, 'i', false},
+    {"another size", STAMP_CHANGED, 's', false},
+    {"another second", STAMP_CHANGED, 't', false},
+    {"another nanosecond", STAMP_CHANGED, 'n', false},
+    {"another time of change", STAMP_CHANGED, 'c', true},
+    {"another nanosecond of change", STAMP_CHANGED, 'C', true},
+    {"another mode", STAMP_CHANGED, 'm', false},
+    {"another owner", STAMP_CHANGED, 'u', false},
+    {"another group", STAMP_CHANGED, 'g', false},
+    {"another name", STAMP_CHANGED, 'l', false},
+    {"read", STAMP_SAME, 'a', true},
+    {"a link in its place", STAMP_CHANGED, 'L', false},
+    {"a folder in its place", STAMP_NOT_PLAIN, 'D', false},
+    {"a pipe in its place", STAMP_NOT_PLAIN, 'P', false},
+    {"a device in its place", STAMP_NOT_PLAIN, 'V', false},
+    {"a socket in its place", STAMP_NOT_PLAIN, 'S', false},
 };
 
 static void set_kind(struct stat *found, mode_t kind) {
