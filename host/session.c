@@ -107,9 +107,10 @@ static int put_about(struct session *session) {
     static char words[MOST_ABOUT];
     size_t size = about_write(&session->about, words, sizeof words);
     int error = size > 0 ? put_file(session, ABOUT_NAME, words, size) : ENAMETOOLONG;
-    if (!error) session->is_about_due = session->is_hasty;
-    if (!error) session->about.is_old = false;
-    return error;
+    if (error) return error;
+    session->is_about_due = session->is_hasty;
+    session->about.is_old = false;
+    return 0;
 }
 
 bool session_has_mark(const struct session *session, enum mark mark) {

@@ -401,10 +401,12 @@ bool is_as_left(const struct step *step, const struct step *now) {
 static void count_byte(struct key_count *count, unsigned char byte) {
     enum { SAVE = 0x13, ESCAPE = 0x1b };
     if (count->is_in_sequence) {
-        bool is_final = (byte >= 'A' && byte <= 'Z') || (byte >= 'a' && byte <= 'z') || byte == '~', is_mark = byte == '>' && !count->is_notice;
+        bool is_final = (byte >= 'A' && byte <= 'Z') || (byte >= 'a' && byte <= 'z') || byte == '~';
         if ((byte >= '0' && byte <= '9') || byte == ';') return;
-        if (is_mark) count->is_notice = true;
-        if (is_mark) return;
+        if (byte == '>' && !count->is_notice) {
+            count->is_notice = true;
+            return;
+        }
         count->is_in_sequence = false;
         /* a size, and the Save right before it, and a notice are no keys */
         if (byte == 't' && !count->is_notice) count->keys -= count->is_saved ? 2 : 1;
