@@ -8,6 +8,7 @@
 #include <stdio.h>
 #include <string.h>
 #include <sys/ioctl.h>
+#include <sys/syscall.h>
 #include <sys/wait.h>
 #include <unistd.h>
 
@@ -432,8 +433,9 @@ static bool prepare(struct run *run, struct pipes *ends) {
     return open_pipes(&now_running.pipes, ends);
 }
 
-void leave_run(void) {
+int leave_run(void) {
     close_pipes(&now_running.pipes);
+    return (int)syscall(SYS_pidfd_open, now_running.program, 0);
 }
 
 enum run_end run_program(struct run *run) {
