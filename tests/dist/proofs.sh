@@ -36,7 +36,7 @@ check_measuring() { # NAME
 
 check_installing() { # NAME
     (cd "$tree" && sh tools/install.sh "$folder/installed") >"$folder/said" 2>&1
-    same "$1, status" "$? $(cat "$folder/said")" "0 $folder/installed/bin/bidi-edit"
+    same "$1, status" "$? $(head -n 1 "$folder/said")" "0 $folder/installed/bin/bidi-edit"
     same "$1, it runs" "$("$folder/installed/bin/bidi-edit" note | paste -s -d '|')" 'host note|bidi_edit runs'
     same "$1, the toolchain" "$(cat "$folder/installed/lib/bidi_edit/kit")" 'a toolchain'
     echo '// more' >>"$tree/crates/low/src/main.rt"
@@ -59,7 +59,7 @@ check_installing_built() { # NAME
     for note in '' 'a noted toolchain'; do
         [ -z "$note" ] || echo "$note" >"$tree/crates/bidi_edit/out/kit"
         (cd "$tree" && PATH=$folder/none:$PATH sh tools/install.sh "$folder/built") >"$folder/said" 2>&1
-        same "$1, built here${note:+, $note}" "$? $(cat "$folder/said") $(cat "$folder/built/lib/bidi_edit/kit" 2>/dev/null)" "0 $folder/built/bin/bidi-edit $note"
+        same "$1, built here${note:+, $note}" "$? $(head -n 1 "$folder/said") $(cat "$folder/built/lib/bidi_edit/kit" 2>/dev/null)" "0 $folder/built/bin/bidi-edit $note"
     done
 }
 

@@ -23,8 +23,8 @@ check_manual() { # NAME
 # Both have the same files, of the same bytes, but for what Debian compresses, links and adds.
 check_files() { # NAME
     tree=$folder/tree/bidi-edit-$version
-    same "$1, in both" "$(cd "$tree" && find . -type f ! -path './share/man/*' -exec sha256sum {} + | sort -k 2)" \
-        "$(cd "$folder/unpacked/usr" && find . -type f ! -path './share/man/*' ! -path '*/lintian/*' ! -name copyright ! -name 'changelog*' -exec sha256sum {} + | sort -k 2)"
+    same "$1, in both" "$(cd "$tree" && find . -type f ! -path './share/man/*' ! -path './share/zsh/*' -exec sha256sum {} + | sort -k 2)" \
+        "$(cd "$folder/unpacked/usr" && find . -type f ! -path './share/man/*' ! -path './share/zsh/*' ! -path '*/lintian/*' ! -name copyright ! -name 'changelog*' -exec sha256sum {} + | sort -k 2)"
     same "$1, the package's documents" "$(cd "$folder/unpacked/usr/share/doc/bidi-edit" && echo *)" 'NOTICE bidi-edit.spdx.json changelog.Debian.gz changelog.gz copyright'
     same "$1, the changes" "$(gzip -dc "$folder/unpacked/usr/share/doc/bidi-edit/changelog.gz")" "$(cat "$top/CHANGELOG.md")"
     same "$1, the owners" "$(dpkg-deb -c "$deb" | awk '{ print $2 }' | sort -u)" root/root

@@ -65,6 +65,17 @@ put_kit() {
     fi
 }
 
+# Puts the files there by which shells complete options, and the entry for desktops.
+put_helps() {
+    for pair in bash:bash-completion/completions/bidi-edit zsh:zsh/site-functions/_bidi-edit fish:fish/vendor_completions.d/bidi-edit.fish; do
+        file=share/${pair#*:}
+        mkdir -p -- "$tree/${file%/*}"
+        sh "$top/tools/package/completions.sh" "${pair%%:*}" "$tree/bin/bidi-edit" >"$tree/$file"
+        chmod 644 "$tree/$file"
+    done
+    put 644 "$top/tools/package/bidi-edit.desktop" share/applications/bidi-edit.desktop
+}
+
 # Fills a folder.
 fill_tree() { # FOLDER
     tree=$1
@@ -74,6 +85,7 @@ fill_tree() { # FOLDER
     for table in DerivedBidiClass BidiBrackets BidiMirroring ArabicShaping UnicodeData; do put 644 "$top/data/$table.txt" "share/bidi_edit/$table.txt"; done
     put_manual
     put_kit
+    put_helps
     put 644 "$top/NOTICE" share/doc/bidi-edit/NOTICE
     sh "$top/tools/make-sbom.sh" "$tree" >"$tree/share/doc/bidi-edit/bidi-edit.spdx.json"
 }
