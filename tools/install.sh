@@ -141,6 +141,7 @@ put_there() {
 }
 
 # Says whether the command bidi-edit is found, and whether it is the one that was installed.
+# shellcheck disable=SC2016 # for the user's shell
 tell_path() {
     places=$(CDPATH='' cd -- "$prefix/bin" && pwd)
     case :$PATH: in
@@ -153,7 +154,6 @@ tell_path() {
             echo "its folder is on PATH, but another bidi-edit comes first: $(shown "$found")"
         fi
         ;;
-    # shellcheck disable=SC2016 # for the user's shell
     *) printf 'its folder is not on PATH: start it by its path, or add a line to ~/.profile: PATH=$PATH:%s\n' "$(shown "$places")" ;;
     esac
 }
