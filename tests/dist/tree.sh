@@ -47,6 +47,8 @@ make_repository() {
     done
     make_host_source "$folder/first/host/main.c" host
     : >"$folder/first/host/main.h"
+    # the version of sources outside a commit
+    base_version=$(sed -n 's/^## \([0-9.]*\), unreleased$/\1~git/p; t; s/^## \([0-9.]*\), .*/\1/p' "$here/../CHANGELOG.md" | head -n 1)
     tree=$folder/first
     build_all
     (cd "$tree" && PATH=$folder/bin:$PATH sh tools/make-dist.sh >/dev/null) || echo 'dist/ is not made'

@@ -12,6 +12,7 @@ check_manual() { # NAME
     manual=$folder/tree/bidi-edit-$version/share/man/man1/bidi_edit.1
     ! has_tool "$1, man" man || same "$1, man" "$(man --warnings -l "$manual" 2>&1 >/dev/null)" ''
     ! has_tool "$1, mandoc" mandoc || same "$1, mandoc" "$(mandoc -T lint "$manual" 2>&1)" ''
+    same "$1, its version in the sources" "$(sed -n '1s/.*"bidi_edit \([^"]*\)".*/\1/p' "$top/docs/bidi_edit.1")" "${version%"$day.$digest"}"
     same "$1, its version" "$(sed -n '1s/.*"bidi_edit \([^"]*\)".*/\1/p' "$manual")" "$version"
     same "$1, its day" "$(sed -n '1s/^.TH BIDI_EDIT 1 \([^ ]*\) .*/\1/p' "$manual")" "$(date -u -d "$day" +%Y-%m-%d)"
     for word in Hebrew Arabic bidirectional; do

@@ -54,15 +54,17 @@ put_manual() {
     echo '.so man1/bidi_edit.1' >"$tree/share/man/man1/bidi-edit.1"
 }
 
-# Puts the toolchain's version there, as it was noted when the programs were built.
-put_kit() {
+# Prints the toolchain's version, as it was noted when the programs were built.
+kit_of() {
+    if [ -z "$start" ] && rt version 2>/dev/null; then return; fi
     kit=$(path_of bidi_edit)
-    kit=${kit%/*}/kit
-    if [ -z "$start" ] && told=$(rt version 2>/dev/null); then
-        printf '%s\n' "$told" >"$tree/lib/bidi_edit/kit"
-    elif [ -f "$kit" ]; then
-        put 644 "$kit" lib/bidi_edit/kit
-    fi
+    cat "${kit%/*}/kit" 2>/dev/null || echo unknown
+}
+
+# Puts there what --version says: in the first line the toolchain, then the editor's version and where the programs are from.
+put_kit() {
+    { kit_of && echo "version $version" && tell_programs "$start"; } >"$tree/lib/bidi_edit/kit"
+    chmod 644 "$tree/lib/bidi_edit/kit"
 }
 
 # Puts the files there by which shells complete options, and the entry for desktops.
