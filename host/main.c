@@ -102,7 +102,8 @@ static const char *check_plain(const char *typed) {
     struct stat look;
     const char *refusal = NULL;
     file.typed = typed;
-    file.text = open(typed, O_RDONLY | O_NONBLOCK | O_CLOEXEC);
+    /* a pipe that is opened and closed ends its writer */
+    file.text = stat(typed, &look) == 0 && S_ISREG(look.st_mode) ? open(typed, O_RDONLY | O_NONBLOCK | O_CLOEXEC) : -1;
     if (file.text < 0) return NULL;
     if (fstat(file.text, &look) == 0 && S_ISREG(look.st_mode)) refusal = check_text(&file);
     close(file.text);
