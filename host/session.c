@@ -407,6 +407,12 @@ void session_note_file(struct session *session, const struct target *target) {
     if (is_new || has_moved) session->is_about_due = true;
 }
 
+void session_note_saved(struct session *session) {
+    off_t size = session_journal_size(session);
+    session->about.saved = size > 0 ? (uint64_t)size : 0;
+    session->is_about_due = true;
+}
+
 /* ---- a session that goes on */
 
 enum cause session_resume(struct session *session, unsigned rows, unsigned cols) {

@@ -214,6 +214,7 @@ size_t about_write(const struct about *about, char *words, size_t room) {
     if (about->has_text) put_sum(&writing, "text", &about->text);
     if (about->has_known) put_sum(&writing, "known", &about->known);
     put_sum(&writing, "journal", &about->journal);
+    put(&writing, "saved %" PRIu64 "\n", about->saved);
     sum_begin(&all);
     sum_more(&all, words, writing.length);
     put(&writing, "sum %016" PRIx64 "\n", all.hash);
@@ -263,6 +264,7 @@ static void read_line(struct about *about, const char *line) {
     else if (take_key(&line, "marks")) about->marks = marks_of(line);
     else if (take_key(&line, "text")) about->has_text = sum_of(line, &about->text);
     else if (take_key(&line, "known")) about->has_known = sum_of(line, &about->known);
+    else if (take_key(&line, "saved") && !take_number(&line, UINT64_MAX, &about->saved)) about->saved = 0;
     else if (take_key(&line, "journal") && !sum_of(line, &about->journal)) sum_begin(&about->journal);
 }
 
