@@ -13,7 +13,7 @@
 #include "util.h"
 
 /* Seconds: that a message stays before the screen hides it; after which a notice that keys have hidden is shown again. */
-enum { PAUSE = 1, AGAIN = 5 };
+enum { PAUSE = 1, HIDDEN = 5 };
 
 /* Bits of a mode: by which others than the owner read; all of theirs. */
 enum { READ_BY_OTHERS = 044, FOR_OTHERS = 077 };
@@ -37,8 +37,8 @@ int find_file(struct edit *edit, const char *typed, bool is_lost) {
     }
     const struct file *file = &edit->file;
     sessions_find(&edit->sessions);
-    edit->target = (struct target){.path = file->path, .folder = -1, .name = file->name};
-    if (!file->is_lost) target_look(&edit->target, file->path, file->folder, file->name);
+    edit->target = (struct target){.path = file->path, .folder = file->is_lost ? -1 : file->folder, .name = file->name,
+                                   .is_there = file->stamp.is_there && file->itself >= 0, .id = file->id};
     edit->reason = find_in_place(&file->facts, &file->stamp, &file->folder_facts);
     return GO_ON;
 }
@@ -299,7 +299,7 @@ static void tell_trouble(struct edit *edit) {
     if (is_new) {
         show_title(edit->titles[title_note_of(facts, trouble)]);
         if (trouble != NOTICE_NONE) ring();
-    } else if (trouble == NOTICE_NONE || !edit->is_typed_since || edit->seconds_since < AGAIN) {
+    } else if (trouble == NOTICE_NONE || !edit->is_typed_since || edit->seconds_since < HIDDEN) {
         return;
     }
     give_notice(trouble != NOTICE_NONE ? trouble : NOTICE_KEPT_AGAIN);

@@ -13,8 +13,8 @@
 #include "session.h"
 #include "util.h"
 
-/* HOUR: a folder without facts that is older, in seconds, was left by a killed start. AT_ROOT: there is no folder above. */
-enum { HOUR = 3600, FOLDER_MODE = 0700, UNSEEN = -1, AT_ROOT = -2 };
+/* HOUR: a folder without facts that is older, in seconds, was left by a killed start. */
+enum { HOUR = 3600, FOLDER_MODE = 0700 };
 
 /* ---- where it is */
 
@@ -63,62 +63,41 @@ static void fail_with(struct sessions *sessions, int error) {
     sessions->cause = cause_of(error);
 }
 
-/* Looks at an open folder and all above it for one that another user could change. The topmost such folder is the one that is named. */
-static void judge_above(struct sessions *sessions, int folder) {
-    struct stat found, below = {0};
-    int above = open_folder(folder, ".");
-    while (above >= 0) {
-        int next = fstat(above, &found) == 0 ? open_folder(above, "..") : UNSEEN;
-        if (next >= 0 && is_same_file(&found, &below)) {
-            close(next);
-            next = AT_ROOT;
-        } else if (next >= 0 && !is_safe_above(found.st_uid, found.st_mode, sessions->user)) {
-            sessions->state = FOLDER_DISTRUSTED;
-            if (!path_of(above, sessions->distrusted)) put_path(sessions->distrusted, "%s", sessions->path);
-        }
-        below = found;
-        close(above);
-        above = next;
-    }
-    /* a folder that cannot be examined could be another user's */
-    if (above == UNSEEN && sessions->state == FOLDER_READY) fail_with(sessions, EACCES);
-}
-
-/* Judges the folder of sessions by its own owner and mode, then by those of the folders above, and opens it only if all are safe. Only the
- * folder above is found by its path; all else is asked of what is then open. */
-static void judge_at(struct sessions *sessions, int above, const char *name) {
-    struct stat found;
-    char real[PATH_MAX];
-    int folder = openat(above, name, O_RDONLY | O_DIRECTORY | O_NOFOLLOW | O_CLOEXEC);
-    bool is_link = folder < 0 && (errno == ELOOP || errno == ENOTDIR);
-    if (folder < 0 && !is_link) {
-        fail_with(sessions, errno);
-        return;
-    }
-    if (path_of(above, real)) put_path(sessions->path, "%s/%s", before_slash(real), name);
-    if (is_link || fstat(folder, &found) != 0 || !is_private(found.st_uid, found.st_mode, sessions->user)) {
-        sessions->state = FOLDER_DISTRUSTED;
-        memcpy(sessions->distrusted, sessions->path, sizeof sessions->distrusted);
-    } else {
-        sessions->state = FOLDER_READY;
-        judge_above(sessions, above);
-    }
-    if (sessions->state == FOLDER_READY) sessions->folder = folder;
-    else close_one(&folder);
-}
-
-static void judge(struct sessions *sessions) {
+/* The first folder on a path without links, from the root on, that another user could change: such a user could exchange all below it.
+ * Returns the length of its path; 0 if all are safe, -1 if one cannot be examined. The last folder is judged by `is_private`. */
+static long first_unsafe(const char *path, uid_t user, struct stat *last) {
     char above[PATH_MAX];
+    for (const char *end = path; end; end = strchr(end + 1, '/')) {
+        put_path(above, "%.*s", end == path ? 1 : (int)(end - path), path);
+        if (lstat(above, last) != 0) return -1;
+        if (!is_safe_above(last->st_uid, last->st_mode, user)) return (long)strlen(above);
+    }
+    if (lstat(path, last) != 0) return -1;
+    return S_ISDIR(last->st_mode) && is_private(last->st_uid, last->st_mode, user) ? 0 : (long)strlen(path);
+}
+
+/* Judges the folder of sessions and those above it by owner and mode, and opens it only if all are safe. */
+static void judge(struct sessions *sessions) {
+    struct stat found, opened;
+    char above[PATH_MAX], real[PATH_MAX];
     put_path(above, "%s", sessions->path);
     char *name = strrchr(above, '/');
     *name++ = '\0';
     int folder = open_folder(AT_FDCWD, above[0] ? above : "/");
-    if (folder < 0) {
-        fail_with(sessions, errno);
-        return;
-    }
-    judge_at(sessions, folder, name);
-    close(folder);
+    bool is_found = folder >= 0 && path_of(folder, real) && put_path(sessions->path, "%s/%s", before_slash(real), name);
+    if (!is_found) fail_with(sessions, folder < 0 ? errno : EACCES);
+    close_one(&folder);
+    if (!is_found) return;
+    long unsafe = first_unsafe(sessions->path, sessions->user, &found);
+    sessions->state = unsafe > 0 ? FOLDER_DISTRUSTED : FOLDER_READY;
+    if (unsafe > 0) put_path(sessions->distrusted, "%.*s", (int)unsafe, sessions->path);
+    if (unsafe < 0) fail_with(sessions, errno);
+    if (sessions->state != FOLDER_READY) return;
+    folder = open(sessions->path, O_RDONLY | O_DIRECTORY | O_NOFOLLOW | O_CLOEXEC);
+    if (folder < 0) fail_with(sessions, errno);
+    else if (fstat(folder, &opened) == 0 && is_same_file(&opened, &found)) sessions->folder = folder;
+    else fail_with(sessions, EACCES);
+    if (folder >= 0 && sessions->folder < 0) close(folder);
 }
 
 void sessions_find(struct sessions *sessions) {
@@ -174,12 +153,17 @@ enum cause walk_begin(struct walk *walk, const struct sessions *sessions) {
     return walk->count < 0 ? cause_of(errno) : CAUSE_NONE;
 }
 
-bool walk_next(struct walk *walk) {
+/* Goes to the next folder of the editor's, which may be no session any more. */
+static bool walk_any(struct walk *walk) {
     session_close(&walk->session);
-    while (walk->next < walk->count) {
-        const char *name = walk->names[walk->next++]->d_name;
-        if (kind_of_name(name) == NAME_SESSION && session_at(&walk->session, walk->sessions, name)) return true;
-    }
+    while (walk->next < walk->count)
+        if (session_at(&walk->session, walk->sessions, walk->names[walk->next++]->d_name)) return true;
+    return false;
+}
+
+bool walk_next(struct walk *walk) {
+    while (walk_any(walk))
+        if (kind_of_name(session_name(&walk->session)) == NAME_SESSION) return true;
     return false;
 }
 
@@ -242,23 +226,13 @@ static void take_session(struct found *found, struct session *session) {
     }
 }
 
-/* Removes what a killed start or removal left: a session that is being removed, and an old folder without facts and keys. */
-static void sweep(const struct sessions *sessions) {
+/* Whether this was left by a killed start or removal: a session that is being removed, and an old folder without facts and keys. */
+static bool is_left(const struct session *session) {
     struct stat found;
     struct timespec now;
-    struct walk walk;
-    walk_begin(&walk, sessions);
-    for (int at = 0; at < walk.count; at++) {
-        const char *name = walk.names[at]->d_name;
-        struct session *session = &walk.session;
-        session_close(session);
-        if (!session_at(session, sessions, name)) continue;
-        bool is_old = fstat(session->folder, &found) == 0 && clock_gettime(CLOCK_REALTIME, &now) == 0 && now.tv_sec - found.st_mtim.tv_sec >= HOUR;
-        bool is_empty = !session->about.path[0] && is_old && session_journal_size(session) <= 0;
-        bool is_left = kind_of_name(name) != NAME_SESSION || is_empty;
-        if (is_left && session_is_own(session) && !session_is_live(session)) session_erase(session, name);
-    }
-    walk_end(&walk);
+    if (kind_of_name(session_name(session)) != NAME_SESSION) return true;
+    if (session->about.path[0] || session_journal_size(session) > 0) return false;
+    return fstat(session->folder, &found) == 0 && clock_gettime(CLOCK_REALTIME, &now) == 0 && now.tv_sec - found.st_mtim.tv_sec >= HOUR;
 }
 
 void found_close(struct found *found) {
@@ -275,10 +249,14 @@ enum cause sessions_of(struct found *found, const struct sessions *sessions, con
     session_clear(&found->unfinished);
     session_clear(&found->dropped);
     enum cause cause = walk_begin(&walk, sessions);
-    while (walk_next(&walk))
-        if (belonging_of(&walk.session, target) != BELONGS_NOT && session_is_own(&walk.session)) take_session(found, &walk.session);
+    while (walk_any(&walk)) {
+        struct session *session = &walk.session;
+        bool is_left_over = is_left(session);
+        if ((!is_left_over && belonging_of(session, target) == BELONGS_NOT) || !session_is_own(session)) continue;
+        if (!is_left_over) take_session(found, session);
+        else if (!session_is_live(session)) session_erase(session, session_name(session));
+    }
     walk_end(&walk);
-    sweep(sessions);
     return cause;
 }
 
