@@ -20,9 +20,8 @@
 #define STATX_ATTR_MOUNT_ROOT 0x2000
 #endif
 
-/* MOST_LINKS: as in Linux. OPEN_TRIES: how often to open a FILE that other programs keep replacing. FRONT: bytes to look at for a byte
- * order mark or a binary header. MOST_NAMES: how many names in a folder are searched for drafts; at most MOST_DRAFTS are reported. */
-enum { MOST_LINKS = 40, OPEN_TRIES = 10, FRONT = 512, MOST_NAMES = 20000, MOST_DRAFTS = 10 };
+/* MOST_LINKS: as in Linux. FRONT: bytes to look at for a byte order mark or a binary header. MOST_NAMES: how many names in a folder are searched for drafts; at most MOST_DRAFTS are reported. */
+enum { MOST_LINKS = 40, FRONT = 512, MOST_NAMES = 20000, MOST_DRAFTS = 10 };
 
 /* Bytes. MOST: the kernel's limit for an attribute, and for the names of a file's attributes. A POSIX access list is a header and entries;
  * three entries, for owner, group and others, say no more than a mode. */
@@ -231,19 +230,6 @@ static enum cause walk(struct file *file) {
 
 /* ---- the opening */
 
-/* Opens FILE for reading, if it is still the file that was found. Returns false if another file has taken its place. A lease on FILE
- * makes the opening wait, which is accepted for a plain file only. */
-static bool open_text(struct file *file) {
-    struct stat opened;
-    file->text = openat(file->folder, file->name, O_RDONLY | O_NONBLOCK | O_NOFOLLOW | O_CLOEXEC | O_NOCTTY);
-    if (file->text < 0 && errno == EAGAIN) file->text = open(link_of(file->itself).path, O_RDONLY | O_CLOEXEC | O_NOCTTY);
-    file->is_unreadable = file->text < 0;
-    if (file->text < 0) return errno != ENOENT && errno != ELOOP && errno != ENXIO;
-    if (fstat(file->text, &opened) == 0 && is_same_file(&opened, &file->stamp.found)) return true;
-    close_one(&file->text);
-    return false;
-}
-
 /* Sets the paths for messages and sessions, by what the open folder is called now. */
 static void name_paths(struct file *file) {
     struct stat folder, there;
@@ -253,8 +239,8 @@ static void name_paths(struct file *file) {
     snprintf(file->path, sizeof file->path, "%s/%s", before_slash(file->folder_path), file->name);
 }
 
-/* Tries once to open FILE. `is_again`: another file took its place meanwhile, so try again. */
-static enum cause try_to_open(struct file *file, bool *is_again) {
+/* Finds and opens FILE; what was opened before a refusal stays open. */
+static enum cause find_and_open(struct file *file) {
     size_t length = strlen(file->typed);
     bool is_name_of_folder = length == 0 || file->typed[length - 1] == '/';
     enum cause cause = is_name_of_folder ? CAUSE_NAMES_FOLDER : check_handed_over(file->typed);
@@ -267,22 +253,18 @@ static enum cause try_to_open(struct file *file, bool *is_again) {
     name_paths(file);
     if (!is_utf8(file->folder_path)) return CAUSE_FOLDER_NOT_UTF8;
     if (!file->stamp.is_there) return CAUSE_NONE;
-    *is_again = !open_text(file);
-    if (*is_again) return CAUSE_DEVICE;
     find_id(file->itself, &file->id);
     find_facts(file->itself, file->folder, &file->facts);
+    /* the plain file that was found, whatever has its name by now */
+    file->text = open(link_of(file->itself).path, O_RDONLY | O_CLOEXEC | O_NOCTTY);
+    file->is_unreadable = file->text < 0;
     return CAUSE_NONE;
 }
 
 enum cause open_file(struct file *file, const char *typed) {
-    enum cause cause = CAUSE_NONE;
-    bool is_again = true;
-    for (int tries = 0; is_again && tries < OPEN_TRIES; tries++) {
-        is_again = false;
-        *file = (struct file){.typed = typed, .folder = -1, .itself = -1, .text = -1};
-        cause = try_to_open(file, &is_again);
-        if (cause != CAUSE_NONE) close_file(file);
-    }
+    *file = (struct file){.typed = typed, .folder = -1, .itself = -1, .text = -1};
+    enum cause cause = find_and_open(file);
+    if (cause != CAUSE_NONE) close_file(file);
     return cause;
 }
 
