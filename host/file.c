@@ -209,7 +209,8 @@ static enum cause take_step(struct file *file, const char *path) {
     if (!file->is_linked) put_path(file->folder_name, "%s", folder_part);
     close_one(&file->folder);
     file->folder = folder;
-    if (stamp_and_open(folder, file->name, &file->stamp, &file->itself) || errno != EACCES) return CAUSE_NONE;
+    if (stamp_and_open(folder, file->name, &file->stamp, &file->itself) || (errno != EACCES && errno != ENAMETOOLONG)) return CAUSE_NONE;
+    if (errno == ENAMETOOLONG) return CAUSE_NAME_TOO_LONG;
     if (file->is_linked) path_of(folder, file->folder_name);
     return CAUSE_FOLDER_CLOSED;
 }
@@ -341,17 +342,21 @@ static bool is_left(const struct file *file, const char *name) {
     return strspn(name + stem + 1, DRAFT_ALPHABET) == DRAFT_LETTERS && strcmp(name + stem + 1 + DRAFT_LETTERS, DRAFT_END) == 0;
 }
 
-/* The names are by the path that the user has typed, unless links lead elsewhere. At most MOST_NAMES names are read, so that a large folder
- * does not hold up a start. */
+const char *path_beside(const struct file *file, const char *name) {
+    const char *slash = strrchr(file->typed, '/');
+    if (file->is_linked) return text_of("%s/%s", before_slash(file->folder_path), name);
+    return text_of("%.*s%s", slash ? (int)(slash - file->typed) + 1 : 0, file->typed, name);
+}
+
+/* At most MOST_NAMES names are read, so that a large folder does not hold up a start. */
 const char *leftovers_line(const struct file *file) {
-    const char *slash = strrchr(file->typed, '/'), *name;
-    int length = slash ? (int)(slash - file->typed) + 1 : 0, count = 0, drafts = 0;
+    const char *name;
+    int count = 0, drafts = 0;
     char *names = text_of("%s", "");
     DIR *entries = open_entries(file->folder);
     while (entries && count++ < MOST_NAMES && drafts < MOST_DRAFTS && (name = next_entry(entries))) {
         if (!is_left(file, name)) continue;
-        name = file->is_linked ? text_of("%s/%s", before_slash(file->folder_path), name) : text_of("%.*s%s", length, file->typed, name);
-        names = text_of("%s %s", names, shown(name));
+        names = text_of("%s %s", names, shown(path_beside(file, name)));
         drafts++;
     }
     if (entries) closedir(entries);

@@ -27,24 +27,13 @@ static enum outcome end_with(int *status, int value) {
 /* Names of new files beside FILE are tried with numbers below this. */
 enum { MOST_NEW_NAMES = 10000 };
 
-/* The first free name of FILE.ENDING, FILE.ENDING1 and so on. */
-static const char *free_name(const char *typed, const char *ending) {
-    struct stat look;
-    const char *name = text_of("%s.%s", typed, ending);
-    for (int number = 1; number < MOST_NEW_NAMES && lstat(name, &look) == 0; number++) name = text_of("%s.%s%d", typed, ending, number);
+/* The first free name of FILE.ENDING, FILE.ENDING1 and so on in an open folder. */
+static const char *free_name(int folder, const char *file, const char *ending) {
+    struct file_stamp look;
+    const char *name = text_of("%s.%s", file, ending);
+    for (int number = 1; number < MOST_NEW_NAMES && stamp_at(folder, name, &look) && look.is_there; number++)
+        name = text_of("%s.%s%d", file, ending, number);
     return name;
-}
-
-/* Makes a new file for the user alone with the bytes of an open one, and gives it these permissions. After a failure there is no
- * file. */
-static enum cause copy_to_new(const char *path, int source, mode_t mode) {
-    int file = open(path, O_WRONLY | O_CREAT | O_EXCL | O_NOFOLLOW | O_CLOEXEC, 0600);
-    if (file < 0) return cause_of(errno);
-    int error = copy_file(source, 0, file);
-    if (error == 0 && (fchmod(file, mode) != 0 || fsync(file) != 0)) error = errno;
-    if (close(file) != 0 && error == 0) error = errno;
-    if (error != 0) unlink(path);
-    return cause_of(error);
 }
 
 /* ---- a session that is to go on */
@@ -54,26 +43,28 @@ static int tell_unwritten(const char *path, enum cause cause) {
     return STATUS_FAULT;
 }
 
-/* Copies a session's files to free names beside FILE, and removes the session. If a copy fails, the session stays. */
-static int keep_parts(struct session *session, const char *typed) {
+/* Copies a session's files to free names beside FILE, in the folder that is open, and removes the session. If a copy fails, the session
+ * stays. */
+static int keep_parts(struct session *session, const struct file *beside) {
     static const struct {
         const char *part, *ending, *what;
     } parts[] = {{TEXT_NAME, "session-text", "the text as it was opened"},
                  {JOURNAL_NAME, "session-journal", "the keys"},
                  {SNAPSHOT_NAME, "session-snapshot", "the text at the end of the session"},
                  {SAVED_NAME, "session-save", "the text of an interrupted save"}};
+    int folder = beside->is_lost ? -1 : beside->folder;
     for (size_t i = 0; i < sizeof parts / sizeof *parts; i++) {
         int file = session_open(session, parts[i].part);
         if (file < 0 && errno == ENOENT) continue;
-        const char *name = free_name(typed, parts[i].ending);
+        const char *name = free_name(folder, beside->name, parts[i].ending), *path = path_beside(beside, name);
         if (file < 0) {
             warn("the session in %s is left as it is, since a part cannot be read: %s", shown(session->path), parts[i].what);
             return STATUS_FAULT;
         }
-        enum cause cause = copy_to_new(name, file, 0600);
+        enum cause cause = make_file(folder, name, file, 0600);
         close(file);
-        if (cause) return tell_unwritten(name, cause);
-        tell("%s: %s", shown(name), parts[i].what);
+        if (cause) return tell_unwritten(path, cause);
+        tell("%s: %s", shown(path), parts[i].what);
     }
     /* if it cannot be removed, the next start asks about it */
     session_remove(session);
@@ -101,7 +92,7 @@ static int settle_file(struct edit *edit, enum replayed found) {
         return check_access(edit);
     }
     edit->aside_of = typed;
-    const char *beside = free_name(typed, "recovered");
+    const char *beside = free_name(AT_FDCWD, typed, "recovered");
     tell("another program or window has changed %s since; the session's text is recovered as %s", shown(typed), shown(beside));
     int status = find_file(edit, beside, false);
     if (status == GO_ON) status = check_access(edit);
@@ -132,7 +123,7 @@ static enum outcome end_where_same(const struct edit *edit, struct session *sess
 static enum outcome ask_what_to_keep(const struct edit *edit, struct session *session, int *status) {
     tell("the session of %s in %s could not be replayed", shown(edit->file.typed), shown(session->path));
     enum rest rest = ask_rest();
-    *status = rest == REST_NONE ? STATUS_NO : rest == REST_KEEP ? keep_parts(session, edit->file.typed) : GO_ON;
+    *status = rest == REST_NONE ? STATUS_NO : rest == REST_KEEP ? keep_parts(session, &edit->file) : GO_ON;
     return *status == GO_ON ? OUTCOME_OPENED : OUTCOME_END;
 }
 
@@ -357,7 +348,7 @@ static int store(struct edit *edit, const struct session *session) {
     const char *other = edit->call->other, *damage = session_damage(session);
     int text = text_to_store(edit, session);
     if (text < 0) return STATUS_FAULT;
-    enum cause cause = copy_to_new(other, text, session->about.mode >= 0 ? (mode_t)session->about.mode : 0600);
+    enum cause cause = make_file(AT_FDCWD, other, text, session->about.mode >= 0 ? (mode_t)session->about.mode : 0600);
     close(text);
     if (cause) return tell_unwritten(other, cause);
     tell("the text of %s, with what was typed in the session (keys: %zu), is now in %s", shown(edit->file.typed), session_count_keys(session), shown(other));

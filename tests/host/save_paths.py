@@ -269,6 +269,7 @@ REFUSED = {
     "in_bytes": "in_bytes is a link to a name that is not UTF-8: rename that file with mv",
     "plain/x": "plain is not a folder: name a file in a folder",
     "none/x": "the folder none does not exist: mkdir -p none creates it",
+    "a" * 256: f"the name {'a' * 256} is too long for its disk: choose a shorter one",
     "plain/y/x": "the folder plain/y cannot exist, since its path leads through a file: name a file in a folder",
 }
 
