@@ -228,7 +228,7 @@ def cannot_be_replayed(check, place):
     started.type(b'keep\n').sees(b'text <>').type(QUIT).ends(0)
     os.remove(place.files)
     os.rename(f'{place.files}.away', place.files)
-    check.same('what the folder of the link has', os.listdir(f'{place.files}.theirs'), [])
+    check.same('what is kept where the link leads', [name for name in os.listdir(f'{place.files}.theirs') if 'session' in name], [])
     check.same('the text beside FILE', place.text('a.txt.session-text1'), b'text\n')
     place.leave()
     place.start('a.txt', TYPIST='replay-refused').answers(CHOICE, 'r').answers(REST, 'open').sees(b'text <text|>').type(QUIT).ends(0)
