@@ -16,7 +16,7 @@
 enum { PAUSE = 1, HIDDEN = 5 };
 
 /* Bits of a mode: by which others than the owner read; all of theirs. */
-enum { READ_BY_OTHERS = 044, FOR_OTHERS = 077 };
+enum { READ_BY_OTHERS = 044 };
 
 /* ---- FILE */
 
@@ -363,8 +363,6 @@ int run_session(struct edit *edit) {
         program->rows = edit->begin.rows;
         program->columns = edit->begin.cols;
     }
-    /* FILE is gone, so a save creates it, with no more permissions than it had */
-    if (edit->lost_mode >= 0) umask(umask(0) | (program->mask = ~(unsigned)edit->lost_mode & FOR_OTHERS));
     enum notice notice = first_notice(edit);
     if (notice != NOTICE_NONE) give_notice(notice);
     enum run_end end = run_program(program);
