@@ -125,7 +125,7 @@ def cut_by_another(check, place):
             time.sleep(0.01)
         saver = started.run.child('bidi-saver')
         check.holds('FILE is not synced yet', saver, place.text('a.txt'))
-        for process in (saver, started.run.child('bidi_edit'), started.run.job):
+        for process in (started.run.job, saver, started.run.child('bidi_edit')):
             os.kill(process, signal.SIGKILL)
         started.ends(-signal.SIGKILL)
         with open(place.path('b.txt'), 'wb') as file:
