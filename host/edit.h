@@ -37,7 +37,8 @@ struct edit {
      * overwrite FILE, and the session has the whole text meanwhile. is_itself: they overwrite FILE without a session, and a file
      * beside FILE has the whole text meanwhile. */
     bool is_resumed, is_joined, is_in_place, is_itself;
-    /* Why unsaved text is not kept, and its notice; NULL while it is kept. */
+    /* Why unsaved text is not kept, and its notice; NULL while it is kept. is_in_memory: FILE is, and so its text may get on no disk. */
+    bool is_in_memory;
     const char *unkept;
     enum notice unkept_notice;
     /* FILE's name, if a recovered text is saved as a new file beside FILE, which `file` then is; else NULL. */
@@ -49,10 +50,11 @@ struct edit {
 
     struct saver saver;
     struct run run;
-    /* While the program runs: what is known about the keeping of unsaved text, the notice about it that was shown last, the titles,
-     * and whether a save has succeeded. */
+    /* While the program runs: what is known about the keeping of unsaved text; whether keys were typed since a notice about it was shown, and
+     * how many seconds ago that was; the titles; and whether a save has succeeded. */
     struct now_facts facts;
-    struct notice_facts notice;
+    bool is_typed_since;
+    unsigned seconds_since;
     const char *titles[3];
     bool was_saved;
 };

@@ -188,11 +188,10 @@ static int edit_recovered(struct edit *edit) {
     return run_editor(edit, is_taken);
 }
 
-/* Warns of variables that are ignored: an XDG_STATE_HOME that is not absolute, and a TMPDIR that is too long for a path. */
+/* Warns of a variable that is ignored: an XDG_STATE_HOME that is not absolute. */
 static void tell_variables(void) {
-    const char *state = getenv("XDG_STATE_HOME"), *temporary = getenv("TMPDIR");
+    const char *state = getenv("XDG_STATE_HOME");
     if (state && is_state_home_relative()) warn("XDG_STATE_HOME is ignored, since %s is not an absolute path: ~/.local/state is used instead", shown(state));
-    if (temporary && strlen(temporary) >= PATH_MAX) warn("TMPDIR is ignored, since its %zu bytes are too many for a path", strlen(temporary));
 }
 
 /* Finds the tables and what a replay depends on, which all starts that open FILE need, and starts. */
@@ -239,7 +238,7 @@ static int obey_words(int count, char **words, const struct programs *programs) 
     if (status != 0) return refuse(status, cause);
     status = obey(&call, programs);
     if (status != 0 || output_fault == 0) return status;
-    return refuse(STATUS_FAULT, text_of("standard output cannot be written%s", fault_words(output_fault)));
+    return refuse(STATUS_FAULT, text_of("standard output cannot be written%s", fault_words(cause_of(output_fault))));
 }
 
 int main(int count, char **words) {

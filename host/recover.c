@@ -35,34 +35,33 @@ static const char *free_name(const char *typed, const char *ending) {
     return name;
 }
 
-/* Makes a new file for the user alone with the bytes of an open one, and gives it these permissions. Returns the system's fault;
- * then there is no file. */
-static int copy_to_new(const char *path, int source, mode_t mode) {
+/* Makes a new file for the user alone with the bytes of an open one, and gives it these permissions. After a failure there is no
+ * file. */
+static enum cause copy_to_new(const char *path, int source, mode_t mode) {
     int file = open(path, O_WRONLY | O_CREAT | O_EXCL | O_NOFOLLOW | O_CLOEXEC, 0600);
-    if (file < 0) return errno;
+    if (file < 0) return cause_of(errno);
     int error = copy_file(source, 0, file);
     if (error == 0 && (fchmod(file, mode) != 0 || fsync(file) != 0)) error = errno;
     if (close(file) != 0 && error == 0) error = errno;
     if (error != 0) unlink(path);
-    return error;
+    return cause_of(error);
 }
 
 /* ---- a session that is to go on */
 
-static int tell_unwritten(const char *path, int error) {
-    warn("%s cannot be written%s", shown(path), fault_words(error));
+static int tell_unwritten(const char *path, enum cause cause) {
+    warn("%s cannot be written%s", shown(path), fault_words(cause));
     return STATUS_FAULT;
 }
 
 /* Copies a session's files to free names beside FILE, and removes the session. If a copy fails, the session stays. */
 static int keep_parts(struct session *session, const char *typed) {
     static const struct {
-        enum part part;
-        const char *ending, *what;
-    } parts[] = {{PART_TEXT, "session-text", "the text as it was opened"},
-                 {PART_JOURNAL, "session-journal", "the keys"},
-                 {PART_SNAPSHOT, "session-snapshot", "the text at the end of the session"},
-                 {PART_SAVE, "session-save", "the text of an interrupted save"}};
+        const char *part, *ending, *what;
+    } parts[] = {{TEXT_NAME, "session-text", "the text as it was opened"},
+                 {JOURNAL_NAME, "session-journal", "the keys"},
+                 {SNAPSHOT_NAME, "session-snapshot", "the text at the end of the session"},
+                 {SAVED_NAME, "session-save", "the text of an interrupted save"}};
     for (size_t i = 0; i < sizeof parts / sizeof *parts; i++) {
         int file = session_open(session, parts[i].part);
         if (file < 0 && errno == ENOENT) continue;
@@ -71,9 +70,9 @@ static int keep_parts(struct session *session, const char *typed) {
             warn("the session in %s is left as it is, since a part cannot be read: %s", shown(session->path), parts[i].what);
             return STATUS_FAULT;
         }
-        int error = copy_to_new(name, file, 0600);
+        enum cause cause = copy_to_new(name, file, 0600);
         close(file);
-        if (error != 0) return tell_unwritten(name, error);
+        if (cause) return tell_unwritten(name, cause);
         tell("%s: %s", shown(name), parts[i].what);
     }
     /* if it cannot be removed, the next start asks about it */
@@ -82,14 +81,14 @@ static int keep_parts(struct session *session, const char *typed) {
 }
 
 /* Tells that a session cannot go on where it is, and how its text can be had all the same. Returns the exit status. */
-static int tell_unwritable(const struct edit *edit, int error) {
+static int tell_unwritable(const struct edit *edit, enum cause cause) {
     warn("nothing can be written in %s%s. To store the text elsewhere: bidi-edit --recover --to OTHER %s", shown(edit->sessions.path),
-         fault_words(error), shown(edit->call->file));
+         fault_words(cause), shown(edit->call->file));
     return STATUS_FAULT;
 }
 
 static void tell_cut(const struct session *session) {
-    if (!session_has(session, PART_CUT)) return;
+    if (!session_has_mark(session, MARK_CUT)) return;
     tell("the session ends after key %zu: what was typed later could not be recorded", session_count_keys(session));
 }
 
@@ -110,21 +109,13 @@ static int settle_file(struct edit *edit, enum replayed found) {
     return status;
 }
 
-/* Whether the path that the session noted is FILE's present one. */
-static bool is_of_path(const struct edit *edit, const struct session *session) {
-    char *path = session_note(session, PART_PATH);
-    bool is_same = path && strcmp(path, edit->file.path) == 0;
-    free(path);
-    return is_same;
-}
-
 /* Continues a session; `found` says what FILE has. */
 static enum outcome go_on_with(struct edit *edit, struct session *session, enum replayed found, int *status) {
-    bool is_own = is_of_path(edit, session);
+    bool is_own = strcmp(session->about.path, edit->file.path) == 0;
     *status = settle_file(edit, found);
     if (*status != GO_ON) return OUTCOME_END;
-    int error = session_go_on(session, edit->aside_of ? edit->file.path : NULL, is_own);
-    if (error != 0) return end_with(status, tell_unwritable(edit, error));
+    enum cause cause = session_go_on(session, edit->aside_of ? edit->file.path : NULL, is_own);
+    if (cause) return end_with(status, tell_unwritable(edit, cause));
     edit->session = *session;
     session_clear(session);
     return OUTCOME_TAKEN;
@@ -164,12 +155,15 @@ static enum outcome take_by_keys(struct edit *edit, struct session *session, int
 /* Makes a new session from the text that a session left at its end, and removes the old session. */
 static enum outcome take_by_text(struct edit *edit, struct session *session, int *status) {
     struct session renewed;
+    struct sum known;
     enum replayed found = compare_text(edit, session);
+    sum_begin(&known);
     if (found == REPLAY_SAME) return end_where_same(edit, session);
     tell("that session was recorded by another version of the editor or of Unicode's tables: its text is recovered, but not its undo history");
     session_clear(&renewed);
-    int error = session_renew(&renewed, &edit->sessions, session, edit->versions);
-    if (error != 0) return end_with(status, tell_unwritable(edit, error));
+    bool is_known = found == REPLAY_KNOWN && (edit->file.text < 0 || sum_file(edit->file.text, &known));
+    enum cause cause = session_renew(&renewed, &edit->sessions, session, edit->versions, is_known ? &known : NULL);
+    if (cause) return end_with(status, tell_unwritable(edit, cause));
     /* if the old one cannot be removed, the next start asks about it */
     session_remove(session);
     enum outcome outcome = go_on_with(edit, &renewed, found, status);
@@ -177,27 +171,34 @@ static enum outcome take_by_text(struct edit *edit, struct session *session, int
     return outcome;
 }
 
+static void tell_damage(const struct session *session, const char *damage) {
+    tell("the session in %s is damaged: %s", shown(session->path), damage);
+}
+
 /* Recovers a session that is locked. First FILE is repaired from its backup; then its keys are trusted only if editor and tables are the
  * same. */
 static enum outcome take_locked(struct edit *edit, struct session *session, int *status) {
     struct mending mending;
-    bool is_mended = session_mend(session, &edit->sessions, &edit->target, &mending) == 0;
+    bool is_mended = session_mend(session, &edit->sessions, &edit->target, &mending) == CAUSE_NONE;
     if (is_mended && tell_mended(edit, &mending, tell)) return end_with(status, STATUS_FAULT);
     /* FILE as it is now, after the question */
     *status = find_file(edit, edit->call->file, true);
     if (*status != GO_ON) return OUTCOME_END;
-    if (session_has_versions(session, edit->versions)) return take_by_keys(edit, session, status);
-    if (session_has(session, PART_SNAPSHOT)) return take_by_text(edit, session, status);
-    tell("%s", unsure);
+    const char *damage = session_damage(session);
+    bool is_same_version = strcmp(session->about.versions, edit->versions) == 0;
+    if (!damage && is_same_version) return take_by_keys(edit, session, status);
+    if (!damage && session_has(session, SNAPSHOT_NAME)) return take_by_text(edit, session, status);
+    if (damage) tell_damage(session, damage);
+    else tell("%s", unsure);
     if (ask_to_go_on("Recover it anyway")) return take_by_keys(edit, session, status);
     return end_with(status, STATUS_NO);
 }
 
 /* Locks a session and recovers it. MISSED: another start was faster, and the caller asks again. */
 static enum outcome take_over(struct edit *edit, struct session *session, int *status) {
-    switch (session_lock(session, PART_PATH)) {
+    switch (session_lock(session)) {
     case LOCK_TAKEN: return take_locked(edit, session, status);
-    case LOCK_FAILED: return end_with(status, tell_unwritable(edit, session->error));
+    case LOCK_FAILED: return end_with(status, tell_unwritable(edit, session->cause));
     default: tell("%s", missed); return OUTCOME_MISSED;
     }
 }
@@ -217,8 +218,7 @@ static bool ask_of_other(const char *typed, const char *number, const char *mach
 }
 
 static const char *number_text(const struct session *session) {
-    struct process process;
-    return session_process(session, &process) ? text_of("%u", process.number) : "unknown";
+    return session->about.has_process ? text_of("%u", session->about.process.number) : "unknown";
 }
 
 /* If another editor has FILE open, asks whether to go on. Returns MET_NONE if none has. */
@@ -237,11 +237,11 @@ static enum met ask_beside(const struct edit *edit, const struct found *found) {
 
 /* Deletes a session for good. If that fails, the question comes again. */
 static enum outcome delete_session(const struct edit *edit, struct session *session) {
-    enum lock_result lock = session_lock(session, PART_PATH);
-    int error = lock == LOCK_TAKEN ? session_remove(session) : session->error;
-    if (lock == LOCK_TAKEN && error == 0) return OUTCOME_OPENED;
+    enum lock_result lock = session_lock(session);
+    enum cause cause = lock == LOCK_TAKEN ? session_remove(session) : session->cause;
+    if (lock == LOCK_TAKEN && !cause) return OUTCOME_OPENED;
     if (lock == LOCK_HELD || lock == LOCK_GONE) tell("%s", missed);
-    else warn("the session of %s in %s cannot be deleted%s", shown(edit->file.typed), shown(session->path), fault_words(error));
+    else warn("the session of %s in %s cannot be deleted%s", shown(edit->file.typed), shown(session->path), fault_words(cause));
     return OUTCOME_MISSED;
 }
 
@@ -260,7 +260,7 @@ enum met meet_sessions(struct edit *edit, int *status) {
     for (;;) {
         struct found found;
         /* a folder that cannot be read has no session that could be recovered */
-        if (sessions_of(&found, &edit->sessions, &edit->target) != 0) return MET_NONE;
+        if (sessions_of(&found, &edit->sessions, &edit->target)) return MET_NONE;
         enum met met = ask_beside(edit, &found);
         bool is_asked = met != MET_END && !session_is_none(&found.unfinished);
         enum outcome outcome = is_asked ? ask_what_to_do(edit, &found.unfinished, status) : OUTCOME_END;
@@ -303,9 +303,9 @@ static bool ask_of_elsewhere(const struct edit *edit, const struct session *sess
 
 /* Finds FILE's sessions; returns GO_ON or the exit status. */
 static int find_sessions(struct edit *edit, struct found *found) {
-    int error = sessions_of(found, &edit->sessions, &edit->target);
-    if (error != 0) warn("%s cannot be read: %s", shown(edit->sessions.path), strerror(error));
-    return error != 0 ? STATUS_FAULT : GO_ON;
+    enum cause cause = sessions_of(found, &edit->sessions, &edit->target);
+    if (cause) warn("%s cannot be read: %s", shown(edit->sessions.path), cause_text(cause));
+    return cause ? STATUS_FAULT : GO_ON;
 }
 
 /* For --recover: picks a session and takes it over, after the questions that only the user can answer. */
@@ -341,8 +341,8 @@ int recover_session(struct edit *edit, bool *is_taken) {
  * none, which is reported. */
 static int text_to_store(struct edit *edit, const struct session *session) {
     int text = -1;
-    if (!session_has_versions(session, edit->versions)) {
-        text = session_open(session, PART_SNAPSHOT);
+    if (strcmp(session->about.versions, edit->versions) != 0) {
+        text = session_open(session, SNAPSHOT_NAME);
         if (text >= 0) return text;
         tell("%s", unsure);
     }
@@ -354,14 +354,15 @@ static int text_to_store(struct edit *edit, const struct session *session) {
 
 /* Writes a session's text to a new file, never over one that exists. Returns the exit status. */
 static int store(struct edit *edit, const struct session *session) {
-    const char *other = edit->call->other;
+    const char *other = edit->call->other, *damage = session_damage(session);
     int text = text_to_store(edit, session);
     if (text < 0) return STATUS_FAULT;
-    int error = copy_to_new(other, text, session_mode(session));
+    enum cause cause = copy_to_new(other, text, session->about.mode >= 0 ? (mode_t)session->about.mode : 0600);
     close(text);
-    if (error != 0) return tell_unwritten(other, error);
+    if (cause) return tell_unwritten(other, cause);
     tell("the text of %s, with what was typed in the session (keys: %zu), is now in %s", shown(edit->file.typed), session_count_keys(session), shown(other));
-    return 0;
+    if (damage) tell_damage(session, damage);
+    return damage ? STATUS_FAULT : 0;
 }
 
 /* Stores the text of one of the sessions that were found. A session of another machine is refused: only --recover FILE asks whether it
@@ -380,15 +381,15 @@ static int store_found(struct edit *edit, struct found *found) {
         warn("%s already exists: name a new file", shown(other));
         return STATUS_FAULT;
     }
-    enum lock_result lock = session_lock(session, PART_PATH);
+    enum lock_result lock = session_lock(session);
     if (lock == LOCK_HELD || lock == LOCK_GONE) {
         warn("%s", missed);
         return STATUS_FAULT;
     }
     /* no lock can be taken on a disk that is read-only, where no editor can run either */
     if (lock == LOCK_FAILED) {
-        session->text = session_open(session, PART_TEXT);
-        session->journal = session_open(session, PART_JOURNAL);
+        session->text = session_open(session, TEXT_NAME);
+        session->journal = session_open(session, JOURNAL_NAME);
     }
     return store(edit, session);
 }

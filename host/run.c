@@ -7,6 +7,7 @@
 #include <stdio.h>
 #include <string.h>
 #include <sys/ioctl.h>
+#include <sys/syscall.h>
 #include <sys/wait.h>
 #include <unistd.h>
 
@@ -68,8 +69,9 @@ static struct {
     int64_t idle, second, answered, dropped, left, stop, handed_on, end;
 } live = {.pipes = {-1, -1, -1, -1}};
 
-void leave_run(void) {
+int leave_run(void) {
     close_pipes(&live.pipes);
+    return (int)syscall(SYS_pidfd_open, live.program, 0);
 }
 
 bool was_typed(void) {

@@ -66,8 +66,9 @@ enum run_end { RUN_ENDED, RUN_NOT_STARTED };
  * Text on the program's standard error that is not a frame, such as a crash message, is written out once the terminal is restored. */
 enum run_end run_program(struct run *run);
 
-/* In a child of the host: closes what belongs to the run, so that the program's end is seen. */
-void leave_run(void);
+/* In a child of the host: closes what belongs to the run, so that the program's end is seen. Returns a file that can be read once the program
+ * has ended; -1 where the system has none. */
+int leave_run(void);
 
 /* Makes the program show a notice: at once, or at its start if called before run_program. While the message of a failed save is shown, it
  * waits for the next key. */

@@ -124,8 +124,9 @@ def cut_by_another(check, place):
         while place.text('a.txt') != b'abctext\n' and time.monotonic() < end:
             time.sleep(0.01)
         saver = started.run.child('bidi-saver')
+        program = started.run.child('bidi_edit')
         check.holds('FILE is not synced yet', saver, place.text('a.txt'))
-        for process in (started.run.job, saver, started.run.child('bidi_edit')):
+        for process in (started.run.job, saver, program):
             os.kill(process, signal.SIGKILL)
         started.ends(-signal.SIGKILL)
         with open(place.path('b.txt'), 'wb') as file:
@@ -225,8 +226,8 @@ def watched_files(check, place):
     folder = f'/proc/{started.run.child("bidi-watcher")}/fd'
     files = {os.readlink(f'{folder}/{number}') for number in os.listdir(folder)}
     session = place.sessions()[0]
-    check.holds('the session', {session, f'{session}/lock'} <= files, files)
-    check.holds('nothing else', all(name.startswith(('/dev/', 'pipe:')) for name in files - {session, f'{session}/lock'}), files)
+    check.holds('the session', session in files, files)
+    check.holds('nothing else', all(name.startswith(('/dev/', 'pipe:')) for name in files - {session}), files)
     started.type(QUIT).ends(0)
 
 
