@@ -29,7 +29,8 @@ enum { FIRST_MS = 3000 };
 #define PASTE "\033[?2004h"
 #define END_PASTE "\033[?2004l"
 
-/* xterm and its kin tell keys that they would send as the letter alone, such as Ctrl with a letter of a Hebrew layout. */
+/* xterm and foot tell keys that they would send as the character alone, such as Ctrl with an apostrophe, which is the key W of a Hebrew
+ * layout. */
 #define KEYS "\033[>4;1m"
 #define END_KEYS "\033[>4m"
 
@@ -68,7 +69,7 @@ static size_t waiting_length;
 /* ---- what the terminal can do */
 
 /* OTHER_KIND: any other terminal, or one that is not recognized. */
-enum kind { OTHER_KIND, KONSOLE, KITTY, QTERMINAL, MLTERM, TERMINOLOGY };
+enum kind { OTHER_KIND, XTERM, KONSOLE, KITTY, QTERMINAL, MLTERM, TERMINOLOGY };
 static enum kind kind;
 static bool keeps_title;
 
@@ -92,7 +93,7 @@ static enum kind find_kind(void) {
     static const struct {
         const char *variable, *value;
         enum kind kind;
-    } signs[] = {{"XTERM_VERSION", "", OTHER_KIND},        {"VTE_VERSION", "", OTHER_KIND},     {"KONSOLE_VERSION", "", KONSOLE},
+    } signs[] = {{"XTERM_VERSION", "", XTERM},             {"VTE_VERSION", "", OTHER_KIND},     {"KONSOLE_VERSION", "", KONSOLE},
                  {"MLTERM", "", MLTERM},                   {"KITTY_WINDOW_ID", "", KITTY},      {"ALACRITTY_WINDOW_ID", "", OTHER_KIND},
                  {"INSIDE_EMACS", "", OTHER_KIND},         {"TERM_PROGRAM", "kitty", KITTY},    {"TERM_PROGRAM", "qterminal", QTERMINAL},
                  {"TERM_PROGRAM", "terminology", TERMINOLOGY}, {"TERM_PROGRAM", "vte", OTHER_KIND}};
@@ -140,9 +141,10 @@ bool bears_clips(void) {
     return !is_shown && kind != TERMINOLOGY;
 }
 
-/* Whether modified keys are asked for: of xterm, and of terminals that say that they are like it, or that are known to understand this. */
+/* Whether modified keys are asked for: only of terminals that then send all other keys as before. mlterm, which may have xterm's TERM, sends
+ * even capital letters in another form. */
 static bool tells_keys(void) {
-    return !is_screen() && (variable("TMUX") || begins("TERM", "xterm") || begins("TERM", "tmux") || begins("TERM", "foot") || begins("TERM", "mlterm"));
+    return kind == XTERM || (begins("TERM", "foot") && !variable("TMUX") && !variable("STY"));
 }
 
 const char *terminal_hint(const char **name) {

@@ -50,9 +50,11 @@ def reordering(check, tree):
 
 def modified_keys(check, tree):
     """xterm and its kin are asked to tell modified keys, until the end."""
-    for variables, is_asked in (({'TERM': 'xterm-256color'}, True), ({'TERM': 'mlterm'}, True), ({'TERM': 'foot'}, True),
-                                ({'TERM': 'tmux-256color', 'TMUX': '/no/such/socket,1,0'}, True), ({'TERM': 'screen', 'STY': '1.pts'}, False),
-                                ({'TERM': 'linux'}, False), ({'TERM': 'rxvt-unicode'}, False), ({'TERM': 'st-256color'}, False)):
+    xterm = {'XTERM_VERSION': 'XTerm(379)'}
+    for variables, is_asked in (({'TERM': 'xterm-256color', **xterm}, True), ({'TERM': 'foot'}, True), ({'TERM': 'xterm-256color'}, False),
+                                ({'TERM': 'xterm', **xterm, 'MLTERM': '3.9.2'}, False), ({'TERM': 'mlterm', 'MLTERM': '3.9.2'}, False),
+                                ({'TERM': 'tmux-256color', 'TMUX': '/no/such/socket,1,0', **xterm}, False),
+                                ({'TERM': 'screen', 'STY': '1.pts', **xterm}, False), ({'TERM': 'linux'}, False), ({'TERM': 'rxvt-unicode'}, False), ({'TERM': 'st-256color'}, False)):
         output = see(tree, **variables)
         check.same(f'modified keys: {variables}', (output.count(b'\x1b[>4;1m'), output.count(b'\x1b[>4m')), (int(is_asked),) * 2)
 
