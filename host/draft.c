@@ -86,11 +86,10 @@ static int name_backup(struct save *save) {
     return error == EEXIST || error == ENAMETOOLONG ? name_by_chance(&save->draft, save->file) : error;
 }
 
-/* Syncs the draft's folder, which is open for that. */
-static int sync_folder(const struct draft *draft, int folder) {
-    if (folder >= 0) return sync_file(folder);
-    /* a folder that the user cannot read is synced with its disk */
-    return syncfs(draft->file) == 0 ? 0 : errno;
+/* Syncs FILE's folder; one that the user cannot read is synced with its disk. */
+static int sync_folder(const struct save *save) {
+    if (save->folder_to_sync >= 0) return sync_file(save->folder_to_sync);
+    return syncfs(save->draft.file) == 0 ? 0 : errno;
 }
 
 /* ---- the draft */
@@ -123,12 +122,6 @@ static int open_own(struct save *save, mode_t mode) {
     return open_at(&save->draft, BACKUP_DRAFT_NAME, mode);
 }
 
-/* Gives the file an owner or a group. A refusal is a fault only for root. */
-static int give(int file, uid_t owner, gid_t group, bool *is_given) {
-    *is_given = fchown(file, owner, group) == 0;
-    return *is_given || geteuid() != 0 ? 0 : errno;
-}
-
 /* Removes an access list that a folder gave a new file. */
 static int remove_list(int file) {
     return fremovexattr(file, "system.posix_acl_access") == 0 || errno == ENODATA || is_lacking(errno) ? 0 : errno;
@@ -137,14 +130,17 @@ static int remove_list(int file) {
 /* Gives the draft the owner, group and permissions of the file that it replaces, as far as the system permits. */
 static int take_over(const struct save *save) {
     const struct stat *old = &save->state.old.found;
-    struct taken taken = {.owner = true, .group = true, .is_plain = save->state.is_old_plain};
+    struct taken taken = {.is_plain = save->state.is_old_plain};
     struct stat own;
     int file = save->draft.file, error = remove_list(file);
-    if (error == 0 && !save->state.old.is_there) return fchmod(file, (mode_t)save->saver->lost_mode & RIGHTS) == 0 ? 0 : errno;
-    if (error == 0 && fstat(file, &own) != 0) error = errno;
-    if (error == 0 && own.st_gid != old->st_gid) error = give(file, (uid_t)-1, old->st_gid, &taken.group);
-    if (error == 0 && own.st_uid != old->st_uid) error = give(file, old->st_uid, (gid_t)-1, &taken.owner);
     if (error != 0) return error;
+    if (!save->state.old.is_there) return fchmod(file, (mode_t)save->saver->lost_mode & RIGHTS) == 0 ? 0 : errno;
+    if (fstat(file, &own) != 0) return errno;
+    taken.group = own.st_gid == old->st_gid || fchown(file, (uid_t)-1, old->st_gid) == 0;
+    /* a refusal is a fault only for root */
+    if (!taken.group && geteuid() == 0) return errno;
+    taken.owner = own.st_uid == old->st_uid || fchown(file, old->st_uid, (gid_t)-1) == 0;
+    if (!taken.owner && geteuid() == 0) return errno;
     return fchmod(file, mode_of_new(taken, old->st_mode)) == 0 ? 0 : errno;
 }
 
@@ -224,7 +220,7 @@ static enum cause refused_rename(struct save *save, int error) {
 static enum cause replace_by_rename(struct save *save) {
     if (renameat(save->folder, save->draft.name, save->folder, save->file->name) != 0) return refused_rename(save, errno);
     save->draft.name[0] = 0;
-    return cause_of(sync_folder(&save->draft, save->folder_to_sync));
+    return cause_of(sync_folder(save));
 }
 
 /* Puts the draft at FILE's name, where nothing is. */
@@ -233,7 +229,7 @@ static enum cause create(struct save *save) {
     int error = name_draft(draft, save->file->name);
     if (error == EEXIST) return CAUSE_CHANGED;
     if (error != 0) return cause_of(error);
-    error = sync_folder(draft, save->folder_to_sync);
+    error = sync_folder(save);
     if (error != 0) remove_name(draft);
     draft->name[0] = 0;
     return cause_of(error);
@@ -249,7 +245,7 @@ static enum cause exchange(struct save *save, const struct stat *own) {
     if (error == ENOENT) return create(save);
     if (error != 0) return refused_rename(save, error);
     bool is_right = came_out(save);
-    if (is_right) error = sync_folder(draft, save->folder_to_sync);
+    if (is_right) error = sync_folder(save);
     if ((is_right && error == 0) || exchange_back(draft, save->file->name, *own)) unlinkat(draft->folder, draft->name, 0);
     draft->name[0] = 0;
     return is_right ? cause_of(error) : CAUSE_CHANGED;
@@ -298,50 +294,34 @@ enum cause replace_file(struct save *save) {
 
 /* ---- FILE itself is overwritten */
 
-/* Records how far the overwriting has come, which a start reads after it was killed: FILE was changed at this time last, and has so many
- * bytes. A later start does without what cannot be written. */
-static void note_step(const struct save *save, enum step_kind kind, const struct timespec *changed, size_t from, size_t to) {
+/* Records how far the overwriting has come, which a start reads after it was killed: FILE (-1 before it is changed) has so many bytes. A
+ * later start does without what cannot be written. */
+static void note_step(const struct save *save, enum step_kind kind, int file, size_t from, size_t to) {
     char words[MOST_WORDS];
-    const struct stat *file = &save->state.seen.found;
-    struct step step = {.kind = kind, .from = from, .to = to, .id = {.device = file->st_dev, .inode = file->st_ino},
-                        .seconds = changed->tv_sec, .nanos = (uint32_t)changed->tv_nsec};
+    struct stat found = {0};
+    const struct stat *seen = &save->state.seen.found;
     if (save->step < 0) return;
+    if (file < 0 ? clock_gettime(CLOCK_REALTIME, &found.st_mtim) != 0 : fstat(file, &found) != 0) return;
+    struct step step = {.kind = kind, .from = from, .to = to, .id = {.device = seen->st_dev, .inode = seen->st_ino},
+                        .seconds = found.st_mtim.tv_sec, .nanos = (uint32_t)found.st_mtim.tv_nsec};
     snprintf(step.boot, sizeof step.boot, "%s", save->saver->boot);
     words_of_step(&step, words);
     if (pwrite(save->step, words, strlen(words), 0) < 0) return;
 }
 
-/* The same for FILE as it is now, or, before it is changed (-1), at the time of day. */
-static void note_step_now(const struct save *save, enum step_kind kind, int file, size_t from, size_t to) {
-    struct stat found;
-    struct timespec today = {0};
-    clock_gettime(CLOCK_REALTIME, &today);
-    if (file < 0) note_step(save, kind, &today, from, to);
-    else if (save->step >= 0 && fstat(file, &found) == 0) note_step(save, kind, &found.st_mtim, from, to);
-}
-
-/* Opens the record of steps in the session's folder, and puts it on the disk. If FILE is torn by an earlier save, that one's step stays. */
-static int open_steps(struct save *save) {
-    save->step = openat(save->saver->backup_folder, STEP_NAME, O_WRONLY | O_CREAT | O_NOFOLLOW | O_CLOEXEC, 0600);
-    if (save->step < 0) return errno;
-    if (!save->state.is_torn) note_step_now(save, STEP_READY, -1, 0, 0);
-    return sync_file(save->step);
-}
-
-/* Makes the draft the backup. The backup and its name are on the disk before FILE changes. */
+/* Makes the draft the backup. The backup, its name and the record of steps are on the disk before FILE changes. */
 static int keep_backup(struct save *save) {
-    int backup_folder = save->saver->backup_folder;
-    if (backup_folder < 0) {
-        int error = name_backup(save);
-        return error == 0 ? sync_folder(&save->draft, save->folder_to_sync) : error;
-    }
-    if (renameat(backup_folder, BACKUP_DRAFT_NAME, backup_folder, BACKUP_NAME) != 0) return errno;
+    int own = save->saver->backup_folder, error = own < 0 ? name_backup(save) : 0;
+    if (own < 0) return error == 0 ? sync_folder(save) : error;
+    if (renameat(own, BACKUP_DRAFT_NAME, own, BACKUP_NAME) != 0) return errno;
     snprintf(save->draft.name, sizeof save->draft.name, "%s", BACKUP_NAME);
-    int error = open_steps(save);
-    if (error != 0) return error;
-    int folder = openat(backup_folder, ".", O_RDONLY | O_DIRECTORY | O_CLOEXEC);
+    save->step = openat(own, STEP_NAME, O_WRONLY | O_CREAT | O_NOFOLLOW | O_CLOEXEC, 0600);
+    int folder = save->step < 0 ? -1 : openat(own, ".", O_RDONLY | O_DIRECTORY | O_CLOEXEC);
     if (folder < 0) return errno;
-    error = sync_file(folder);
+    /* if FILE is torn by an earlier save, that one's step stays */
+    if (!save->state.is_torn) note_step(save, STEP_READY, -1, 0, 0);
+    error = sync_file(save->step);
+    if (error == 0) error = sync_file(folder);
     close(folder);
     return error;
 }
@@ -383,10 +363,10 @@ static int fill(const struct save *save, int file, const unsigned char *bytes, s
     int error = lseek(file, 0, SEEK_SET) == 0 ? 0 : errno;
     for (size_t done = 0, piece; error == 0 && done < length; done += piece) {
         piece = length - done < PIECE ? length - done : PIECE;
-        note_step_now(save, STEP_PARTLY, file, done, done + piece);
+        note_step(save, STEP_PARTLY, file, done, done + piece);
         error = write_bytes(file, bytes + done, piece);
     }
-    if (error == 0) note_step_now(save, STEP_WHOLE, file, length, length);
+    if (error == 0) note_step(save, STEP_WHOLE, file, length, length);
     return error == 0 ? sync_file(file) : error;
 }
 
@@ -403,7 +383,7 @@ static unsigned char *read_old(const struct save *save, int file) {
 static int overwrite(struct save *save, int file) {
     size_t old_length = (size_t)save->state.seen.found.st_size;
     unsigned char *old = save->state.is_torn ? NULL : read_old(save, file);
-    note_step_now(save, STEP_PARTLY, -1, 0, 0);
+    note_step(save, STEP_PARTLY, -1, 0, 0);
     int error = ftruncate(file, 0) == 0 ? 0 : errno;
     if (error == 0) {
         note_torn(save);

@@ -50,6 +50,7 @@ run making check_making
 run host check_host_alone
 run own check_own
 run start check_start
+run version check_version
 run sources check_sources
 run sums check_sums
 run machine check_machine

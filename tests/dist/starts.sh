@@ -113,6 +113,27 @@ share/bidi_edit/DerivedBidiClass.txt share/bidi_edit/UnicodeData.txt"
     same "$1, nothing stays of that" "$(ls "$tree/out/start/bin")" bidi-edit
 }
 
+# Prints what --version says, in one line.
+version_told() {
+    PATH="$folder/bin:$PATH" "$tree/bidi-edit" --version 2>&1 </dev/null | sed 's/ [0-9a-f]\{64\}$/ SUM/' | paste -s -d '|'
+}
+
+# What --version says beside the host's words: the version of the sources, and where the programs are from.
+check_version() { # NAME
+    same "$1, of dist/" "$(version_told)" "host $base_version|bidi_edit runs|programs of dist/|sources of dist/ SUM"
+    build_all
+    # where the host finds its program when it is built in host/out
+    mkdir -p "$tree/host/lib" && cp -R "$tree/out/start/lib/bidi_edit" "$tree/host/lib/"
+    same "$1, built here" "$(version_told)" "host $base_version|bidi_edit runs|programs built here, the same as in dist/|sources of dist/ SUM"
+    echo 'echo other' >>"$tree/crates/bidi_edit/out/bidi_edit"
+    same "$1, another" "$(version_told)" "host $base_version|bidi_edit runs|programs built here|sources of dist/ SUM"
+    printf '0123456789abcdef0123 1800000000 Somebody <somebody@example.org>\n' >"$tree/tools/package/commit"
+    sed -i '0,/^## /s/^## .*/## 7.8.9, unreleased/' "$tree/CHANGELOG.md"
+    same "$1, in a tarball" "$(version_told | cut -d '|' -f 1)" 'host 7.8.9~git20270115.01234567'
+    sed -i '0,/^## /s/^## .*/## 7.8.9, 2027-01-15 (tag v7.8.9)/' "$tree/CHANGELOG.md"
+    same "$1, of a release" "$(version_told | cut -d '|' -f 1)" 'host 7.8.9'
+}
+
 # A changed source is told before the first start and after it, and one that is changed back is no fault.
 check_sources() { # NAME
     for file in low/src/main.rt bidi_print/specs/Lib.antt $player/proofs/deep/Proof.antt; do

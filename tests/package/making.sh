@@ -10,6 +10,8 @@ make_sources() {
     commit_time=$(git -C "$top" log -1 --format='%ct +0200')
     mkdir "$source"
     (cd "$top" && git ls-files -z | xargs -0 tar -cf - 2>/dev/null) | tar -xf - -C "$source"
+    # after a change in host/, dist/ is made anew here, as it has to be before the change lands
+    [ "$(host_digest)" = "$(noted host)" ] || sh "$source/tools/make-dist.sh" >"$folder/said" 2>&1 || cat "$folder/said"
     (
         export GIT_AUTHOR_NAME=Somebody GIT_AUTHOR_EMAIL=somebody@example.org GIT_COMMITTER_NAME=Somebody GIT_COMMITTER_EMAIL=somebody@example.org
         export GIT_AUTHOR_DATE="$commit_time" GIT_COMMITTER_DATE="$commit_time" GIT_CONFIG_GLOBAL=/dev/null
