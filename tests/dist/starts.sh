@@ -226,6 +226,6 @@ check_machine() { # NAME
     for name in $names; do rm -r "$tree/crates/$name/out"; done
     rm -rf "$tree/out"
     start
-    refuses "$1, without a loader" 'the programs in dist/ do not run on this machine'
+    refuses "$1, without a loader" "the programs in dist/ do not run on this machine: they need glibc 2.34 or later, and this is $(getconf GNU_LIBC_VERSION)"
     tar -xzf "$folder/first/dist/bidi-edit-x86_64-linux.tar.gz" -C "$TOLD/built" bidi_edit
 }

@@ -80,6 +80,12 @@ run_here() { # FOLDER
     [ $? -lt 126 ]
 }
 
+# Prints why the programs do not run here, as far as the system tells.
+tell_no_run() {
+    libc=$(getconf GNU_LIBC_VERSION 2>/dev/null) || libc='another C library'
+    echo "the programs in dist/ do not run on this machine: they need glibc 2.34 or later, and this is ${libc:-another C library}"
+}
+
 # Makes the folder beside its place and then renames it, so that its place never has a part of it. `beside` is removed at the end.
 unpack() {
     beside=$(in_english mktemp -d "$place.XXXXXX") || {
@@ -193,7 +199,7 @@ prepare() { # [thoroughly]
         remove_old
         ;;
     3)
-        cause='the programs in dist/ do not run on this machine'
+        cause=$(tell_no_run)
         return 1
         ;;
     *) return 2 ;;
