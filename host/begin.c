@@ -16,7 +16,7 @@
 enum { PAUSE = 1, HIDDEN = 5 };
 
 /* Bits of a mode: by which others than the owner read; all of theirs. */
-enum { READ_BY_OTHERS = 044, FOR_OTHERS = 077 };
+enum { READ_BY_OTHERS = 044 };
 
 /* ---- FILE */
 
@@ -245,7 +245,7 @@ static void add_text(struct edit *edit, struct words *words) {
 }
 
 /* The program's arguments for this session. FILE's name comes last, as struct run has it. */
-static void make_words(struct edit *edit, struct words *words) {
+static void make_edit_words(struct edit *edit, struct words *words) {
     add_option(words, "--direction", edit->begin.direction);
     if (edit->begin.line > 0) add_option(words, "--line", text_of("%u", edit->begin.line));
     add_tables(words, &edit->tables, edit->is_joined);
@@ -338,6 +338,16 @@ static void begin_saves(struct edit *edit) {
     if (edit->is_in_place) edit->saver.backup_folder = edit->session.folder;
 }
 
+/* The hint for the terminal, unless a start has shown it: a file in the folder of sessions tells that. */
+static const char *new_hint(const struct sessions *sessions) {
+    const char *name, *hint = terminal_hint(&name);
+    if (!hint || sessions->state != FOLDER_READY) return NULL;
+    int file = openat(sessions->folder, text_of("hint-%s", name), O_WRONLY | O_CREAT | O_EXCL | O_NOFOLLOW | O_CLOEXEC, 0600);
+    if (file < 0) return NULL;
+    close(file);
+    return hint;
+}
+
 /* The notice that the program shows first; NOTICE_NONE where there is none. */
 static enum notice first_notice(const struct edit *edit) {
     if (edit->unkept && !edit->call->is_unkept) return edit->unkept_notice;
@@ -353,7 +363,7 @@ int run_session(struct edit *edit) {
                             .saver = &edit->saver, .whose = edit, .on_opened = on_opened,
                             .on_journal = on_journal, .on_second = on_second, .on_saved = on_saved,
                             .has_mouse = !edit->call->has_no_mouse, .has_clipboard = !edit->call->has_no_clipboard};
-    make_words(edit, &words);
+    make_edit_words(edit, &words);
     program->words = words.words;
     make_titles(edit);
     begin_facts(edit);
@@ -363,10 +373,10 @@ int run_session(struct edit *edit) {
         program->rows = edit->begin.rows;
         program->columns = edit->begin.cols;
     }
-    /* FILE is gone, so a save creates it, with no more permissions than it had */
-    if (edit->lost_mode >= 0) umask(umask(0) | (program->mask = ~(unsigned)edit->lost_mode & FOR_OTHERS));
     enum notice notice = first_notice(edit);
     if (notice != NOTICE_NONE) give_notice(notice);
+    else program->hint = new_hint(&edit->sessions);
+    if (!session_is_none(&edit->session)) program->last_line = text_of("bidi-edit was killed: bidi-edit --recover %s restores unsaved text\n", shown(edit->file.typed));
     enum run_end end = run_program(program);
     is_telling_limited = true;
     if (end == RUN_ENDED) return keeper_end(edit);

@@ -17,49 +17,44 @@ static const char unsure[] =
 /* Names of new files beside FILE are tried with numbers below this. */
 enum { MOST_NEW_NAMES = 10000 };
 
-/* The first free name of FILE.ENDING, FILE.ENDING1 and so on. */
-static const char *free_name(const char *typed, const char *ending) {
-    struct stat look;
-    const char *name = text_of("%s.%s", typed, ending);
-    for (int number = 1; number < MOST_NEW_NAMES && lstat(name, &look) == 0; number++) name = text_of("%s.%s%d", typed, ending, number);
+/* The first free name of FILE.ENDING, FILE.ENDING1 and so on in an open folder. */
+static const char *free_name(int folder, const char *file, const char *ending) {
+    struct file_stamp look;
+    const char *name = text_of("%s.%s", file, ending);
+    for (int number = 1; number < MOST_NEW_NAMES && stamp_at(folder, name, &look) && look.is_there; number++)
+        name = text_of("%s.%s%d", file, ending, number);
     return name;
-}
-
-/* Makes a new file for the user alone with the bytes of an open one, and gives it these permissions; after a failure there is no file.
- * Returns GO_ON or the exit status. */
-static int copy_to_new(const char *path, int source, mode_t mode) {
-    int file = open(path, O_WRONLY | O_CREAT | O_EXCL | O_NOFOLLOW | O_CLOEXEC, 0600);
-    int error = file < 0 ? errno : copy_file(source, 0, file);
-    if (error == 0 && (fchmod(file, mode) != 0 || fsync(file) != 0)) error = errno;
-    if (file >= 0 && close(file) != 0 && error == 0) error = errno;
-    if (error == 0) return GO_ON;
-    if (file >= 0) unlink(path);
-    warn("%s cannot be written%s", shown(path), fault_words(cause_of(error)));
-    return STATUS_FAULT;
 }
 
 /* ---- a session that is to go on */
 
-/* Copies a session's files to free names beside FILE, and removes the session. If a copy fails, the session stays. */
-static int keep_parts(struct session *session, const char *typed) {
+static int tell_unwritten(const char *path, enum cause cause) {
+    warn("%s cannot be written%s", shown(path), fault_words(cause));
+    return STATUS_FAULT;
+}
+
+/* Copies a session's files to free names beside FILE, in the folder that is open, and removes the session. If a copy fails, the session
+ * stays. */
+static int keep_parts(struct session *session, const struct file *beside) {
     static const struct {
         const char *part, *ending, *what;
     } parts[] = {{TEXT_NAME, "session-text", "the text as it was opened"},
                  {JOURNAL_NAME, "session-journal", "the keys"},
                  {SNAPSHOT_NAME, "session-snapshot", "the text at the end of the session"},
                  {SAVED_NAME, "session-save", "the text of an interrupted save"}};
+    int folder = beside->is_lost ? -1 : beside->folder;
     for (size_t i = 0; i < sizeof parts / sizeof *parts; i++) {
         int file = session_open(session, parts[i].part);
         if (file < 0 && errno == ENOENT) continue;
+        const char *name = free_name(folder, beside->name, parts[i].ending), *path = path_beside(beside, name);
         if (file < 0) {
             warn("the session in %s is left as it is, since a part cannot be read: %s", shown(session->path), parts[i].what);
             return STATUS_FAULT;
         }
-        const char *name = free_name(typed, parts[i].ending);
-        int status = copy_to_new(name, file, 0600);
+        enum cause cause = make_file(folder, name, file, 0600);
         close(file);
-        if (status != GO_ON) return status;
-        tell("%s: %s", shown(name), parts[i].what);
+        if (cause) return tell_unwritten(path, cause);
+        tell("%s: %s", shown(path), parts[i].what);
     }
     /* if it cannot be removed, the next start asks about it */
     session_remove(session);
@@ -91,7 +86,7 @@ static int settle_file(struct edit *edit, enum replayed found) {
         return edit->file.is_lost ? find_file(edit, typed, false) : check_access(edit);
     }
     edit->aside_of = typed;
-    const char *beside = free_name(typed, "recovered");
+    const char *beside = free_name(AT_FDCWD, typed, "recovered");
     tell("another program or window has changed %s since; the session's text is recovered as %s", shown(typed), shown(beside));
     bool is_too_long = lstat(beside, &look) != 0 && errno == ENAMETOOLONG;
     int status = is_too_long ? STATUS_FAULT : find_file(edit, beside, false);
@@ -122,7 +117,7 @@ static int end_where_same(const struct edit *edit, struct session *session) {
 static int ask_what_to_keep(const struct edit *edit, struct session *session) {
     tell("the session of %s in %s could not be replayed", shown(edit->file.typed), shown(session->path));
     enum rest rest = ask_rest();
-    int status = rest == REST_NONE ? STATUS_NO : rest == REST_KEEP ? keep_parts(session, edit->file.typed) : GO_ON;
+    int status = rest == REST_NONE ? STATUS_NO : rest == REST_KEEP ? keep_parts(session, &edit->file) : GO_ON;
     return status == GO_ON ? ASKED : status;
 }
 
@@ -318,9 +313,9 @@ static int store(struct edit *edit, const struct session *session) {
     const char *other = edit->call->other, *damage = session_damage(session);
     int text = text_to_store(edit, session);
     if (text < 0) return STATUS_FAULT;
-    int status = copy_to_new(other, text, session->about.mode >= 0 ? (mode_t)session->about.mode : 0600);
+    enum cause cause = make_file(AT_FDCWD, other, text, session->about.mode >= 0 ? (mode_t)session->about.mode : 0600);
     close(text);
-    if (status != GO_ON) return status;
+    if (cause) return tell_unwritten(other, cause);
     tell("the text of %s, with what was typed in the session (keys: %zu), is now in %s", shown(edit->file.typed), session_count_keys(session), shown(other));
     if (damage) tell_damage(session, damage);
     return damage ? STATUS_FAULT : 0;

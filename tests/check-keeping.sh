@@ -14,7 +14,7 @@ check_all() { # NAME..
     if [ $# = 0 ]; then
         # shellcheck disable=SC2046 # names without blanks
         try judge_keep $(sources) || result=1
-        try judge_words say.c words.c || result=1
+        try judge_words say.c words.c util.c || result=1
     fi
     python3 -B "$top/tests/host/keeping.py" "$built" "$@" || result=1
     return "$result"
