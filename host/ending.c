@@ -263,7 +263,10 @@ static struct left left_of(struct edit *edit, enum left_how how) {
     left.has_keys = session_has_keys(session) || session_has_mark(session, MARK_UNSAVED);
     bool is_wanted = left.is_torn || (left.has_keys && how != LEFT_SAVED);
     if (is_wanted) note_moved(edit);
-    if (edit->facts.is_journal_lost && is_wanted) session->about.marks |= MARK_CUT;
+    if (edit->facts.is_journal_lost && is_wanted) {
+        session->about.marks |= MARK_CUT;
+        session->is_about_due = true;
+    }
     left.is_filled = is_wanted && session_settle(session, end_signal != 0);
     left.is_secret = session_has_mark(session, MARK_SECRET);
     left.is_same = left.is_filled && left.has_keys && leave_text(edit);
