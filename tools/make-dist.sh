@@ -60,7 +60,7 @@ take_again() {
 # not fit it, and the programs need a C library of the system's too.
 make_host() {
     sh "$top/host/build.sh" into "$room/host" || refuse 'the host cannot be compiled'
-    strip -o "$room/files/host" "$room/host/bidi-edit"
+    strip --remove-section=.comment --remove-section=.note -o "$room/files/host" "$room/host/bidi-edit"
 }
 
 # Prints SOURCES; dist.sh tells its form.
