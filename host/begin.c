@@ -29,9 +29,9 @@ void close_edited(struct edit *edit) {
 
 int find_file(struct edit *edit, const char *typed, bool is_lost) {
     close_edited(edit);
-    const char *refusal = is_lost ? open_lost_file(&edit->file, typed) : open_file(&edit->file, typed);
-    if (refusal) {
-        warn("%s", refusal);
+    enum cause cause = is_lost ? open_lost_file(&edit->file, typed) : open_file(&edit->file, typed);
+    if (cause != CAUSE_NONE) {
+        warn("%s", file_message(&edit->file, cause, 0));
         edit->file.typed = NULL;
         return STATUS_FAULT;
     }
@@ -81,9 +81,9 @@ bool mend_file(struct edit *edit) {
 }
 
 int check_access(const struct edit *edit) {
-    const char *refusal = edit->call->is_forced ? NULL : refuse_access(&edit->file, edit->reason != NO_REASON);
-    if (refusal) warn("%s", refusal);
-    return refusal ? STATUS_FAULT : GO_ON;
+    enum cause cause = edit->call->is_forced ? CAUSE_NONE : check_access_to(&edit->file, edit->reason != NO_REASON);
+    if (cause != CAUSE_NONE) warn("%s", file_message(&edit->file, cause, 0));
+    return cause != CAUSE_NONE ? STATUS_FAULT : GO_ON;
 }
 
 int check_file(struct edit *edit, const char *typed) {
@@ -316,6 +316,7 @@ static void begin_facts(struct edit *edit) {
 static void begin_saves(struct edit *edit) {
     if (!saver_open(&edit->saver, &edit->file)) tell_no_memory();
     edit->saver.is_itself = edit->is_itself;
+    edit->saver.lost_mode = edit->lost_mode;
     if (session_is_none(&edit->session)) return;
     edit->saver.lock = edit->session.folder;
     edit->saver.boot = this_process()->boot;

@@ -36,11 +36,10 @@ static const char *const sentences[CAUSES] = {
     [CAUSE_FOLDER_PROTECTED] = "you cannot write to the folder @, so no save is possible: edit a copy elsewhere; --force opens the file anyway",
     [CAUSE_UNREADABLE] = "% cannot be read: if it is yours, chmod u+r makes it readable; --force opens an empty text in its place",
     [CAUSE_WRITE_PROTECTED] = "% is write-protected: if it is yours, chmod u+w makes it writable; --force opens it anyway",
-    [CAUSE_NAME_TOO_LONG] = "the name % is too long for a save, which adds three bytes to it; --force opens it anyway",
     [CAUSE_UTF16] = "% is UTF-16, not UTF-8: iconv -f UTF-16 -t UTF-8 converts it",
     [CAUSE_BINARY] = "% is a binary file, not text: od -c shows its bytes",
-    [CAUSE_NOT_UTF8] = "% is not UTF-8: if it is Hebrew text from Windows, iconv -f CP1255 -t UTF-8 converts it (Arabic: -f CP1256)",
-    [CAUSE_TOO_LONG] = "% has more than 16777216 bytes, the limit: split -C 16M cuts it at line ends",
+    [CAUSE_NOT_UTF8] = "% is not UTF-8 (line #): if it is Hebrew text from Windows, iconv -f CP1255 -t UTF-8 converts it (Arabic: -f CP1256)",
+    [CAUSE_TOO_LONG] = "% has # bytes, more than the limit of 16777216: split -C 16M cuts it at line ends",
 };
 
 enum cause cause_of(int error) {
@@ -64,10 +63,12 @@ const char *cause_text(enum cause cause) {
     return cause < CAUSES && sentences[cause] ? sentences[cause] : sentences[CAUSE_OTHER];
 }
 
-const char *cause_message(enum cause cause, const char *name, const char *folder) {
+const char *cause_message(enum cause cause, const char *name, const char *folder, unsigned long long number) {
     char *text = text_of("%s", "");
     const char *rest = cause_text(cause);
-    for (size_t length = strcspn(rest, "%@"); rest[length]; rest += length + 1, length = strcspn(rest, "%@"))
-        text = text_of("%s%.*s%s", text, (int)length, rest, shown(rest[length] == '%' ? name : folder));
+    for (size_t length = strcspn(rest, "%@#"); rest[length]; rest += length + 1, length = strcspn(rest, "%@#")) {
+        const char *word = rest[length] == '#' ? text_of("%llu", number) : shown(rest[length] == '%' ? name : folder);
+        text = text_of("%s%.*s%s", text, (int)length, rest, word);
+    }
     return text_of("%s%s", text, rest);
 }

@@ -38,7 +38,6 @@ enum cause {
     /* FILE is there, and cannot be read, saved or edited. */
     CAUSE_UNREADABLE,
     CAUSE_WRITE_PROTECTED,
-    CAUSE_NAME_TOO_LONG,
     CAUSE_UTF16,
     CAUSE_BINARY,
     CAUSE_NOT_UTF8,
@@ -49,10 +48,10 @@ enum cause {
 /* The cause of a failed call of the system, by its errno; CAUSE_NONE for 0. */
 enum cause cause_of(int error);
 
-/* The sentence of a cause. In it, `%` stands for FILE's name, and `@` for its folder's. */
+/* The sentence of a cause. In it, `%` stands for FILE's name, `@` for its folder's, and `#` for a number. */
 const char *cause_text(enum cause cause);
 
-/* The sentence with these names, quoted for a shell. */
-const char *cause_message(enum cause cause, const char *name, const char *folder);
+/* The sentence with this number and these names, quoted for a shell. */
+const char *cause_message(enum cause cause, const char *name, const char *folder, unsigned long long number);
 
 #endif

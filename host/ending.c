@@ -99,10 +99,10 @@ static const char *refusal_of(const struct edit *edit, bool *is_of_file) {
     *is_of_file = true;
     if (is_fault(edit, "not-utf8", &value)) {
         unsigned long long text_line = strtoull(value, NULL, 10);
-        return not_utf8_message(&edit->file, text_line > 0 ? text_line : 1);
+        return file_message(&edit->file, check_encoding(&edit->file), text_line > 0 ? text_line : 1);
     }
-    if (is_fault(edit, "too-long", &value)) return too_long_message(&edit->file);
-    if (is_fault(edit, "unreadable", &value)) return unreadable_message(&edit->file);
+    if (is_fault(edit, "too-long", &value)) return file_message(&edit->file, CAUSE_TOO_LONG, 0);
+    if (is_fault(edit, "unreadable", &value)) return file_message(&edit->file, CAUSE_UNREADABLE, 0);
     *is_of_file = false;
     return is_fault(edit, "tables", &value) ? value : NULL;
 }
@@ -281,7 +281,7 @@ static struct left left_of(struct edit *edit, enum left_how how) {
 /* Whether this name of FILE leads to this path. Opens it anew, since folders may have changed during the session. */
 static bool leads_to_path(const char *typed, const char *path) {
     static struct file again;
-    if (open_lost_file(&again, typed)) return false;
+    if (open_lost_file(&again, typed) != CAUSE_NONE) return false;
     bool is_same = strcmp(again.path, path) == 0;
     close_file(&again);
     return is_same;

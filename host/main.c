@@ -92,8 +92,8 @@ static const char *check_text(const struct file *file) {
     size_t valid = utf8_length(bytes, length);
     unsigned long long text_line = 1;
     for (size_t i = 0; i < valid; i++) text_line += bytes[i] == '\n';
-    if (length > LARGEST_TEXT) return too_long_message(file);
-    return count == 0 && valid < length ? not_utf8_message(file, text_line) : NULL;
+    if (length > LARGEST_TEXT) return file_message(file, CAUSE_TOO_LONG, 0);
+    return count == 0 && valid < length ? file_message(file, check_encoding(file), text_line) : NULL;
 }
 
 /* The message that refuses FILE's text for printing; NULL if it may be printed. Files of other kinds are not looked into. */
@@ -156,7 +156,7 @@ static int check_terminal(void) {
 
 /* Warns that an empty text is opened in place of FILE's, and of files that killed saves left. */
 static void tell_unusual(const struct edit *edit) {
-    if (is_closed(&edit->file))
+    if (edit->file.is_unreadable)
         warn("%s cannot be read: the text starts empty, and a save overwrites the file", shown(edit->file.typed));
     const char *leftovers = leftovers_line(&edit->file);
     if (leftovers) warn("%s", leftovers);

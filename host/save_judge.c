@@ -9,7 +9,7 @@ static enum reason reason_for(const struct facts *file, nlink_t names, const str
     if (!folder->writable || file->is_held_by_folder) return REASON_PROTECTED;
     if (file->is_mount) return REASON_MOUNTED;
     if (names > 1) return REASON_LINKED;
-    if (file->has_access_list) return REASON_LISTED;
+    if (file->access_list == YES) return REASON_LISTED;
     if (file->has_label) return REASON_LABELLED;
     return folder->gives_access_lists ? REASON_GIVEN_LIST : NO_REASON;
 }
@@ -55,11 +55,10 @@ mode_t mode_of_new(struct taken taken, mode_t old) {
     return (mode & ~(mode_t)GROUP_BITS) | (mode & OTHERS_BITS) << 3;
 }
 
-enum stamp_verdict judge_stamp(const struct file_stamp *seen, const struct file_stamp *now, bool is_assumed_changed) {
+enum stamp_verdict judge_stamp(const struct file_stamp *seen, const struct file_stamp *now) {
     if (!now->is_there) return STAMP_GONE;
     if (!S_ISREG(now->found.st_mode) && !S_ISLNK(now->found.st_mode)) return STAMP_NOT_PLAIN;
-    if (!seen->is_there || is_assumed_changed) return STAMP_CHANGED;
-    return is_unchanged(&seen->found, &now->found) ? STAMP_SAME : STAMP_CHANGED;
+    return seen->is_there && is_unchanged(&seen->found, &now->found) ? STAMP_SAME : STAMP_CHANGED;
 }
 
 bool is_same_file(const struct stat *one, const struct stat *other) {

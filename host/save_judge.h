@@ -37,7 +37,7 @@ mode_t mode_of_new(struct taken taken, mode_t old);
 
 /* What a look at FILE's name shows, compared with what was seen there last. */
 enum stamp_verdict { STAMP_SAME, STAMP_GONE, STAMP_CHANGED, STAMP_NOT_PLAIN };
-enum stamp_verdict judge_stamp(const struct file_stamp *seen, const struct file_stamp *now, bool is_assumed_changed);
+enum stamp_verdict judge_stamp(const struct file_stamp *seen, const struct file_stamp *now);
 
 /* Whether what an exchange took from FILE's place is what was seen there. The time of change is not compared, since a rename changes it. */
 bool is_taken_out(const struct file_stamp *seen, const struct file_stamp *out);

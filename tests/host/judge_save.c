@@ -55,14 +55,12 @@ static const struct {
 
 /* The facts that these letters stand for; see `places`. */
 static struct facts facts_of(const char *letters) {
-    struct facts facts = {.readable = true, .searchable = true};
-    facts.writable = strchr(letters, 'w');
+    struct facts facts = {.writable = strchr(letters, 'w')};
     facts.is_held_by_folder = strchr(letters, 'k');
     facts.is_mount = strchr(letters, 'm');
-    facts.has_access_list = strchr(letters, 'l');
+    facts.access_list = strchr(letters, 'l') ? YES : strchr(letters, '?') ? UNKNOWN : NO;
     facts.gives_access_lists = strchr(letters, 'g');
     facts.has_label = strchr(letters, 's');
-    facts.is_unsure = strchr(letters, '?');
     return facts;
 }
 
@@ -117,33 +115,33 @@ static void check_modes(void) {
 
 /* ---- file stamps */
 
-/* The letter tells what another program did to the file that was seen: see `change`. The third word: what is found, as it is, and
- * if FILE is assumed changed; and whether an exchange took out what was seen. */
+/* The letter tells what another program did to the file that was seen: see `change`. `wanted`: what is found; and whether an exchange took
+ * out what was seen. */
 static const struct {
     const char *name;
+    enum stamp_verdict wanted;
     char change;
-    enum stamp_verdict wanted, assumed_changed;
     bool is_taken_out;
 } changes[] = {
-    {"nothing", '=', STAMP_SAME, STAMP_CHANGED, true},
-    {"gone", '-', STAMP_GONE, STAMP_GONE, false},
-    {"another device", 'd', STAMP_CHANGED, STAMP_CHANGED, false},
-    {"another inode", 'i', STAMP_CHANGED, STAMP_CHANGED, false},
-    {"another size", 's', STAMP_CHANGED, STAMP_CHANGED, false},
-    {"another second", 't', STAMP_CHANGED, STAMP_CHANGED, false},
-    {"another nanosecond", 'n', STAMP_CHANGED, STAMP_CHANGED, false},
-    {"another time of change", 'c', STAMP_CHANGED, STAMP_CHANGED, true},
-    {"another nanosecond of change", 'C', STAMP_CHANGED, STAMP_CHANGED, true},
-    {"another mode", 'm', STAMP_CHANGED, STAMP_CHANGED, false},
-    {"another owner", 'u', STAMP_CHANGED, STAMP_CHANGED, false},
-    {"another group", 'g', STAMP_CHANGED, STAMP_CHANGED, false},
-    {"another name", 'l', STAMP_CHANGED, STAMP_CHANGED, false},
-    {"read", 'a', STAMP_SAME, STAMP_CHANGED, true},
-    {"a link in its place", 'L', STAMP_CHANGED, STAMP_CHANGED, false},
-    {"a folder in its place", 'D', STAMP_NOT_PLAIN, STAMP_NOT_PLAIN, false},
-    {"a pipe in its place", 'P', STAMP_NOT_PLAIN, STAMP_NOT_PLAIN, false},
-    {"a device in its place", 'V', STAMP_NOT_PLAIN, STAMP_NOT_PLAIN, false},
-    {"a socket in its place", 'S', STAMP_NOT_PLAIN, STAMP_NOT_PLAIN, false},
+    {"nothing", STAMP_SAME, '=', true},
+    {"gone", STAMP_GONE, '-', false},
+    {"another device", STAMP_CHANGED, 'd', false},
+    {"another inode", STAMP_CHANGED, 'i', false},
+    {"another size", STAMP_CHANGED, 's', false},
+    {"another second", STAMP_CHANGED, 't', false},
+    {"another nanosecond", STAMP_CHANGED, 'n', false},
+    {"another time of change", STAMP_CHANGED, 'c', true},
+    {"another nanosecond of change", STAMP_CHANGED, 'C', true},
+    {"another mode", STAMP_CHANGED, 'm', false},
+    {"another owner", STAMP_CHANGED, 'u', false},
+    {"another group", STAMP_CHANGED, 'g', false},
+    {"another name", STAMP_CHANGED, 'l', false},
+    {"read", STAMP_SAME, 'a', true},
+    {"a link in its place", STAMP_CHANGED, 'L', false},
+    {"a folder in its place", STAMP_NOT_PLAIN, 'D', false},
+    {"a pipe in its place", STAMP_NOT_PLAIN, 'P', false},
+    {"a device in its place", STAMP_NOT_PLAIN, 'V', false},
+    {"a socket in its place", STAMP_NOT_PLAIN, 'S', false},
 };
 
 static void set_kind(struct stat *found, mode_t kind) {
@@ -184,15 +182,14 @@ static void check_changes(void) {
                               .found = {.st_dev = 5, .st_ino = 7, .st_size = 9, .st_mode = S_IFREG | 0640, .st_uid = 1, .st_gid = 2, .st_nlink = 1}};
     for (size_t i = 0; i < sizeof changes / sizeof *changes; i++) {
         struct file_stamp now = change(seen, changes[i].change);
-        check(changes[i].name, judge_stamp(&seen, &now, false), changes[i].wanted);
-        check(changes[i].name, judge_stamp(&seen, &now, true), changes[i].assumed_changed);
+        check(changes[i].name, judge_stamp(&seen, &now), changes[i].wanted);
         check(changes[i].name, is_taken_out(&seen, &now), changes[i].is_taken_out);
     }
     struct file_stamp link = change(seen, 'L');
-    check("a link that was seen", judge_stamp(&link, &link, false), STAMP_SAME);
-    check("a new file", judge_stamp(&nothing, &seen, false), STAMP_CHANGED);
-    check("a new link", judge_stamp(&nothing, &link, false), STAMP_CHANGED);
-    check("still nothing", judge_stamp(&nothing, &nothing, false), STAMP_GONE);
+    check("a link that was seen", judge_stamp(&link, &link), STAMP_SAME);
+    check("a new file", judge_stamp(&nothing, &seen), STAMP_CHANGED);
+    check("a new link", judge_stamp(&nothing, &link), STAMP_CHANGED);
+    check("still nothing", judge_stamp(&nothing, &nothing), STAMP_GONE);
     check("nothing was seen, and a file is taken out", is_taken_out(&nothing, &seen), false);
 }
 

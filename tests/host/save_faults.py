@@ -13,7 +13,7 @@ import sys
 import tempfile
 
 import save_paths
-from checks import Report, needs, try_case
+from checks import Report, Skipped, needs, try_case
 from save_scene import OTHER, Place, is_old, mode_of, open_file, read, set_list, slow, top, wait_until_late, write
 
 
@@ -240,6 +240,49 @@ def failing_syncs(check, place):
                 editor.end()
 
 
+@needs("root", "mount")
+def linked_on_overlay(check, place):
+    """An overlay copies a file with two names as it is opened for writing: that is no change by another program."""
+    for name in "lower", "upper", "work", "merged":
+        os.mkdir(f"{place.folder}/{name}")
+    write(f"{place.folder}/lower/note", "old\n")
+    os.link(f"{place.folder}/lower/note", f"{place.folder}/lower/other")
+    layers = ",".join(f"{layer}dir={place.folder}/{name}" for layer, name in (("lower", "lower"), ("upper", "upper"), ("work", "work")))
+    if subprocess.run(["mount", "-t", "overlay", "overlay", "-o", layers, f"{place.folder}/merged"], capture_output=True).returncode != 0:
+        raise Skipped("no overlay can be mounted")
+    try:
+        editor = open_file(f"{place.folder}/merged/note", "--itself")
+        check.same("the first save", editor.save("new\n"), "saved")
+        check.same("FILE", read(f"{place.folder}/merged/note"), "new\n")
+        check.same("the second save", editor.save("newer\n"), "saved")
+        write(f"{place.folder}/merged/note", "theirs\n")
+        check.same("the save after a change", editor.save("new\n"), "file changed on disk")
+        editor.end()
+    finally:
+        subprocess.run(["umount", f"{place.folder}/merged"], check=True)
+
+
+@needs("root", "mount")
+def full_in_place(check, place):
+    """The disk is full while FILE is overwritten: FILE has its old text again, and the editor knows it."""
+    disk = f"{place.folder}/disk"
+    os.mkdir(disk)
+    os.mkdir(f"{place.folder}/own")
+    subprocess.run(["mount", "-t", "tmpfs", "-o", "size=64k", "tmpfs", disk], check=True)
+    try:
+        write(f"{disk}/note", "old\n")
+        editor = open_file(f"{disk}/note", "--backup", f"{place.folder}/own")
+        check.same("the save", editor.save("new\n" * 20000), "no space")
+        check.same("FILE", read(f"{disk}/note"), "old\n")
+        check.same("the backup", os.listdir(f"{place.folder}/own"), [])
+        check.same("whether FILE is torn", editor.ask("torn"), "-")
+        check.same("a later save", editor.save("new\n"), "saved")
+        check.same("FILE after it", read(f"{disk}/note"), "new\n")
+        editor.end()
+    finally:
+        subprocess.run(["umount", disk], check=True)
+
+
 # ---- rights
 
 def rights_of_other(path):
@@ -307,6 +350,22 @@ def default_list(check, place):
     editor.end()
 
 
+@needs("setfacl", "root")
+def default_list_and_gone(check, place):
+    """The folder has a list for new files: neither a FILE that is gone, of which its session knows the mode, nor a copy gets rights by it."""
+    set_list(place.folder, "-d", "-m", f"u:{OTHER}:rwx")
+    editor = open_file(place.note, "--mode", "640")
+    check.same("the save", editor.save("new\n"), "saved")
+    check.same("FILE", read(place.note), "new\n")
+    check.same("the copy", editor.ask(f"make {place.note}"), "saved")
+    check.same("a second copy", editor.ask(f"make {place.note}"), "disk error")
+    for path in place.note, f"{place.note}.copy":
+        check.same("whether the other reads it", rights_of_other(path), False)
+        check.same("the mode", oct(mode_of(path)), oct(0o640))
+        check.same("its text", read(path), "new\n")
+    editor.end()
+
+
 @needs("setfacl", "root", "strace")
 def default_list_amid_save(check, place):
     """The folder is given the list after the save has begun."""
@@ -358,12 +417,12 @@ def ten_names(check, place):
 
 CASES = [
     link_in_place, link_behind_a_link, link_led_elsewhere, both_save, replaced_meanwhile, made_meanwhile, list_on_file, list_and_gone,
-    list_amid_save, default_list, default_list_amid_save, draft_is_closed, ten_names, *save_paths.CASES,
+    list_amid_save, default_list, default_list_and_gone, default_list_amid_save, draft_is_closed, ten_names, *save_paths.CASES,
 ]
 # of saves into FILE itself, and of the opening, which the old program leaves to others
 NEW_CASES = [
     written_after_the_exchange, written_before_it_is_opened, written_while_it_is_synced, both_save_in_place, both_save_where_no_folder_is_read,
-    locked_by_another, failing_syncs, *save_paths.NEW_CASES,
+    locked_by_another, failing_syncs, linked_on_overlay, full_in_place, *save_paths.NEW_CASES,
 ]
 
 

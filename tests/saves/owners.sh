@@ -134,6 +134,12 @@ check_disks() {
     check_save '40,000 bytes more on a disk of 64 KiB' old env
     same "what is there" "$(ls -A "$folder/disk")" text
     says 'no space'
+    way=in_place
+    head -c 70000 /dev/zero | tr '\0' b >"$folder/new"
+    check_save '70,000 bytes on a disk of 64 KiB, in place' old env
+    says 'no space'
+    check_no_backup
+    way=beside
     umount "$folder/disk" && mounted=''
 
     prepare plain
