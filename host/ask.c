@@ -150,9 +150,9 @@ const char *time_text(const struct session *session) {
 }
 
 const char *machine_text(const struct session *session) {
-    struct process process;
-    if (!session_process(session, &process)) return "unknown";
-    return strcmp(process.machine, this_process()->machine) == 0 ? NULL : shown(process.machine);
+    const struct process *process = &session->about.process;
+    if (!session->about.has_process) return "unknown";
+    return strcmp(process->machine, this_process()->machine) == 0 ? NULL : shown(process->machine);
 }
 
 /* What the list of sessions adds to a session that is not merely unfinished. */
@@ -163,39 +163,35 @@ static const char *note_of(const struct session *session) {
         const char *machine = machine_text(session);
         return text_of(" (on %s)", machine ? machine : THIS_MACHINE);
     }
-    if (session_has(session, PART_BACKUP)) return " (a save was interrupted)";
+    if (session_has(session, BACKUP_NAME)) return " (a save was interrupted)";
     return state == SESSION_DROPPED ? " (dropped)" : "";
 }
 
 /* Lists a session, if it can be recovered. */
 static bool list_session(const struct session *session) {
     if (!session_has_something(session)) return false;
-    char *path = session_note(session, PART_PATH);
     const char *line = text_of("%s  keys: %zu  KB: %llu  %s%s\n", time_text(session), session_count_keys(session),
-                               (unsigned long long)session_kilobytes(session), shown(path ? path : ""), note_of(session));
-    free(path);
+                               (unsigned long long)session_kilobytes(session), shown(session->about.path), note_of(session));
     put_text(STDOUT_FILENO, line);
     return true;
 }
 
-/* Whether a folder of sessions can be used. Warns of one that others could change. */
-static bool is_usable(const struct sessions *sessions) {
+/* Finds the folder of sessions. Warns if others could change it; then it is not used. */
+static void find_sessions(struct sessions *sessions) {
     enum notice notice;
+    sessions_find(sessions);
     if (sessions->state == FOLDER_DISTRUSTED) warn("a folder of sessions is ignored: %s", unkept_by(sessions, &notice));
-    return sessions->state == FOLDER_READY;
 }
 
 int list_sessions(void) {
-    struct sessions *all;
-    size_t count = sessions_find_all(&all), listed = 0;
-    for (size_t i = 0; i < count; i++) {
-        struct walk walk;
-        if (!is_usable(&all[i])) continue;
-        walk_begin(&walk, &all[i]);
-        while (walk_next_own(&walk)) listed += list_session(&walk.session);
-        walk_end(&walk);
-    }
-    sessions_close_all(all, count);
+    struct sessions sessions;
+    struct walk walk;
+    size_t listed = 0;
+    find_sessions(&sessions);
+    walk_begin(&walk, &sessions);
+    while (walk_next_own(&walk)) listed += list_session(&walk.session);
+    walk_end(&walk);
+    sessions_close(&sessions);
     if (listed == 0) tell("there are no sessions to recover");
     return 0;
 }
@@ -211,35 +207,29 @@ static void tell_forgotten(void *context, const struct forgotten *forgotten) {
     char time[32] = "";
     if (forgotten->has_time) time_words(&forgotten->changed, time);
     const char *name = text_of("the session of %s%s%s", shown(forgotten->path), *time ? " from " : "", time);
-    if (forgotten->error != 0) {
+    if (forgotten->cause) {
         counts->kept++;
-        warn("%s cannot be deleted%s", name, fault_words(forgotten->error));
+        warn("%s cannot be deleted%s", name, fault_words(forgotten->cause));
     } else {
         counts->removed++;
         tell("%s is deleted%s", name, forgotten->was_dropped ? " (dropped)" : "");
     }
 }
 
-/* Removes the sessions of all files in every folder that may have some. */
+/* Removes the ended sessions of all files. */
 static void forget_all_sessions(struct counts *counts) {
-    struct sessions *all;
-    size_t count = sessions_find_all(&all);
-    for (size_t i = 0; i < count; i++)
-        if (is_usable(&all[i])) sessions_forget(&all[i], NULL, tell_forgotten, counts);
-    sessions_close_all(all, count);
+    struct sessions sessions;
+    find_sessions(&sessions);
+    sessions_forget(&sessions, NULL, tell_forgotten, counts);
+    sessions_close(&sessions);
 }
 
 /* Removes the ended sessions of FILE, also where another name of it has them. */
 static int forget_sessions_of(const char *typed, struct counts *counts) {
     static struct edit edit;
-    struct sessions *near;
     int status = find_file(&edit, typed, true);
     if (status != GO_ON) return status;
-    if (edit.sessions.state == FOLDER_READY) sessions_forget(&edit.sessions, &edit.target, tell_forgotten, counts);
-    size_t count = sessions_find_near(&edit.sessions, &near);
-    for (size_t i = 0; i < count; i++)
-        if (near[i].state == FOLDER_READY) sessions_forget(&near[i], &edit.target, tell_forgotten, counts);
-    sessions_close_all(near, count);
+    sessions_forget(&edit.sessions, &edit.target, tell_forgotten, counts);
     close_edited(&edit);
     return GO_ON;
 }

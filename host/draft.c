@@ -29,14 +29,6 @@ enum cause lock_for_save(int file) {
 
 /* ---- names: these functions return 0 or an errno */
 
-/* A name for a draft beside FILE, as file.h describes it. */
-static bool make_draft_name(const struct file *file, char name[NAME_MAX + 1]) {
-    char random[DRAFT_LETTERS + 1];
-    if (!make_letters(random, DRAFT_LETTERS, DRAFT_ALPHABET)) return false;
-    snprintf(name, NAME_MAX + 1, "%.*s.%s%s", (int)draft_stem(file->name), file->name, random, DRAFT_END);
-    return true;
-}
-
 static int rename_by(int folder, const char *from, const char *to, unsigned flags) {
     return syscall(SYS_renameat2, folder, from, folder, to, flags) == 0 ? 0 : errno;
 }
@@ -66,11 +58,15 @@ static int name_draft(struct draft *draft, const char *name) {
     return error;
 }
 
-/* Gives a draft without a name a random one. */
-static int name_by_chance(struct draft *draft, const struct file *file) {
-    char name[NAME_MAX + 1];
+/* Names or creates a draft beside FILE by a random name, as file.h describes it. */
+static int name_by_chance(struct draft *draft, const struct file *file, int (*name_it)(struct draft *, const char *)) {
+    char name[NAME_MAX + 1], random[DRAFT_LETTERS + 1];
     int error = EEXIST;
-    for (int tries = 0; error == EEXIST && tries < TRIES; tries++) error = make_draft_name(file, name) ? name_draft(draft, name) : EIO;
+    for (int tries = 0; error == EEXIST && tries < TRIES; tries++) {
+        if (!make_letters(random, DRAFT_LETTERS, DRAFT_ALPHABET)) return EIO;
+        snprintf(name, sizeof name, "%.*s.%s%s", (int)draft_stem(file->name), file->name, random, DRAFT_END);
+        error = name_it(draft, name);
+    }
     return error;
 }
 
@@ -82,51 +78,41 @@ static int name_backup(struct save *save) {
         int length = snprintf(name, sizeof name, number ? "%s" DRAFT_END "%d" : "%s" DRAFT_END, save->file->name, number);
         error = length > NAME_MAX ? ENAMETOOLONG : name_draft(&save->draft, name);
     }
-    if ((error == EEXIST || error == ENAMETOOLONG) && save->draft.name[0]) return 0;
-    return error == EEXIST || error == ENAMETOOLONG ? name_by_chance(&save->draft, save->file) : error;
+    if (error != EEXIST && error != ENAMETOOLONG) return error;
+    return save->draft.name[0] ? 0 : name_by_chance(&save->draft, save->file, name_draft);
 }
 
-/* Syncs the draft's folder, which is open for that. */
-static int sync_folder(const struct draft *draft, int folder) {
-    if (folder >= 0) return sync_file(folder);
-    /* a folder that the user cannot read is synced with its disk */
-    return syncfs(draft->file) == 0 ? 0 : errno;
+/* Syncs FILE's folder; one that the user cannot read is synced with its disk. */
+static int sync_folder(const struct save *save) {
+    if (save->folder_to_sync >= 0) return sync_file(save->folder_to_sync);
+    return syncfs(save->draft.file) == 0 ? 0 : errno;
 }
 
 /* ---- the draft */
 
 /* Creates a draft of this name. O_EXCL and O_NOFOLLOW: nothing that another program put there is written. */
-static int open_at(struct draft *draft, const char *name, mode_t mode) {
-    draft->file = openat(draft->folder, name, O_RDWR | O_CREAT | O_EXCL | O_NOFOLLOW | O_CLOEXEC, mode);
+static int open_at(struct draft *draft, const char *name) {
+    draft->file = openat(draft->folder, name, O_RDWR | O_CREAT | O_EXCL | O_NOFOLLOW | O_CLOEXEC, draft->mode);
     if (draft->file < 0) return errno;
     snprintf(draft->name, sizeof draft->name, "%s", name);
     return 0;
 }
 
 /* Creates a draft beside FILE: without a name if the system can, else under a random name. */
-static int open_beside(struct draft *draft, const struct file *file, mode_t mode) {
-    char name[NAME_MAX + 1];
-    int error = EEXIST;
-    draft->file = openat(draft->folder, ".", O_TMPFILE | O_RDWR | O_CLOEXEC, mode);
+static int open_beside(struct draft *draft, const struct file *file) {
+    draft->file = openat(draft->folder, ".", O_TMPFILE | O_RDWR | O_CLOEXEC, draft->mode);
     /* it will get its name through /proc, which may have been unmounted */
     if (draft->file >= 0 && faccessat(AT_FDCWD, link_of(draft->file).path, F_OK, 0) == 0) return 0;
     close_one(&draft->file);
-    for (int tries = 0; error == EEXIST && tries < TRIES; tries++) error = make_draft_name(file, name) ? open_at(draft, name, mode) : EIO;
-    return error;
+    return name_by_chance(draft, file, open_at);
 }
 
 /* Creates the draft of a backup in the session's folder, in place of what a killed save may have left. */
-static int open_own(struct save *save, mode_t mode) {
+static int open_own(struct save *save) {
     /* FILE may be torn, and need the backup that exists */
     if (faccessat(save->draft.folder, BACKUP_NAME, F_OK, AT_SYMLINK_NOFOLLOW) == 0) save->state.is_torn = true;
     if (unlinkat(save->draft.folder, BACKUP_DRAFT_NAME, 0) != 0 && errno != ENOENT) return errno;
-    return open_at(&save->draft, BACKUP_DRAFT_NAME, mode);
-}
-
-/* Gives the file an owner or a group. A refusal is a fault only for root. */
-static int give(int file, uid_t owner, gid_t group, bool *is_given) {
-    *is_given = fchown(file, owner, group) == 0;
-    return *is_given || geteuid() != 0 ? 0 : errno;
+    return open_at(&save->draft, BACKUP_DRAFT_NAME);
 }
 
 /* Removes an access list that a folder gave a new file. */
@@ -137,26 +123,27 @@ static int remove_list(int file) {
 /* Gives the draft the owner, group and permissions of the file that it replaces, as far as the system permits. */
 static int take_over(const struct save *save) {
     const struct stat *old = &save->state.old.found;
-    struct taken taken = {.owner = true, .group = true, .is_plain = save->state.is_old_plain};
     struct stat own;
     int file = save->draft.file, error = remove_list(file);
-    if (error == 0 && !save->state.old.is_there) return fchmod(file, (mode_t)save->saver->lost_mode & RIGHTS) == 0 ? 0 : errno;
-    if (error == 0 && fstat(file, &own) != 0) error = errno;
-    if (error == 0 && own.st_gid != old->st_gid) error = give(file, (uid_t)-1, old->st_gid, &taken.group);
-    if (error == 0 && own.st_uid != old->st_uid) error = give(file, old->st_uid, (gid_t)-1, &taken.owner);
     if (error != 0) return error;
-    return fchmod(file, mode_of_new(taken, old->st_mode)) == 0 ? 0 : errno;
+    if (!save->state.old.is_there) return fchmod(file, (mode_t)save->saver->lost_mode & RIGHTS) == 0 ? 0 : errno;
+    if (fstat(file, &own) != 0) return errno;
+    bool has_group = own.st_gid == old->st_gid || fchown(file, (uid_t)-1, old->st_gid) == 0;
+    /* a refusal is a fault only for root */
+    if (!has_group && geteuid() == 0) return errno;
+    bool has_owner = own.st_uid == old->st_uid || fchown(file, old->st_uid, (gid_t)-1) == 0;
+    if (!has_owner && geteuid() == 0) return errno;
+    return fchmod(file, mode_of_new(old->st_mode, has_owner, has_group && save->state.is_old_plain)) == 0 ? 0 : errno;
 }
 
 enum cause write_draft(struct save *save) {
     struct draft *draft = &save->draft;
     int backup_folder = save->is_in_place ? save->saver->backup_folder : -1;
     bool is_known = save->state.old.is_there || save->saver->lost_mode >= 0;
-    /* a FILE that did not exist gets the usual mode, reduced by the user's umask */
-    mode_t mode = save->is_in_place || is_known ? 0600 : 0666;
     if (save->is_cut) return CAUSE_OUT_OF_MEMORY;
-    *draft = (struct draft){.folder = backup_folder >= 0 ? backup_folder : save->folder, .file = -1};
-    int error = backup_folder >= 0 ? open_own(save, mode) : open_beside(draft, save->file, mode);
+    /* a FILE that did not exist gets the usual mode, reduced by the user's umask */
+    *draft = (struct draft){.folder = backup_folder >= 0 ? backup_folder : save->folder, .mode = save->is_in_place || is_known ? 0600 : 0666, .file = -1};
+    int error = backup_folder >= 0 ? open_own(save) : open_beside(draft, save->file);
     if (error == 0) error = write_bytes(draft->file, save->bytes, save->length);
     if (error == 0 && !save->is_in_place && is_known) error = take_over(save);
     return cause_of(error == 0 ? sync_file(draft->file) : error);
@@ -224,7 +211,7 @@ static enum cause refused_rename(struct save *save, int error) {
 static enum cause replace_by_rename(struct save *save) {
     if (renameat(save->folder, save->draft.name, save->folder, save->file->name) != 0) return refused_rename(save, errno);
     save->draft.name[0] = 0;
-    return cause_of(sync_folder(&save->draft, save->folder_to_sync));
+    return cause_of(sync_folder(save));
 }
 
 /* Puts the draft at FILE's name, where nothing is. */
@@ -233,7 +220,7 @@ static enum cause create(struct save *save) {
     int error = name_draft(draft, save->file->name);
     if (error == EEXIST) return CAUSE_CHANGED;
     if (error != 0) return cause_of(error);
-    error = sync_folder(draft, save->folder_to_sync);
+    error = sync_folder(save);
     if (error != 0) remove_name(draft);
     draft->name[0] = 0;
     return cause_of(error);
@@ -242,14 +229,14 @@ static enum cause create(struct save *save) {
 /* Exchanges the draft with FILE, checks that what comes out is what was seen last, and removes it once the new name is on the disk. */
 static enum cause exchange(struct save *save, const struct stat *own) {
     struct draft *draft = &save->draft;
-    int error = draft->name[0] ? 0 : name_by_chance(draft, save->file);
+    int error = draft->name[0] ? 0 : name_by_chance(draft, save->file, name_draft);
     if (error != 0) return cause_of(error);
     error = rename_by(draft->folder, draft->name, save->file->name, RENAME_EXCHANGE);
     if (is_lacking(error)) return replace_by_rename(save);
     if (error == ENOENT) return create(save);
     if (error != 0) return refused_rename(save, error);
     bool is_right = came_out(save);
-    if (is_right) error = sync_folder(draft, save->folder_to_sync);
+    if (is_right) error = sync_folder(save);
     if ((is_right && error == 0) || exchange_back(draft, save->file->name, *own)) unlinkat(draft->folder, draft->name, 0);
     draft->name[0] = 0;
     return is_right ? cause_of(error) : CAUSE_CHANGED;
@@ -298,50 +285,34 @@ enum cause replace_file(struct save *save) {
 
 /* ---- FILE itself is overwritten */
 
-/* Records how far the overwriting has come, which a start reads after it was killed: FILE was changed at this time last, and has so many
- * bytes. A later start does without what cannot be written. */
-static void note_step(const struct save *save, enum step_kind kind, const struct timespec *changed, size_t from, size_t to) {
+/* Records how far the overwriting has come, which a start reads after it was killed: FILE (-1 before it is changed) has so many bytes. A
+ * later start does without what cannot be written. */
+static void note_step(const struct save *save, enum step_kind kind, int file, size_t from, size_t to) {
     char words[MOST_WORDS];
-    const struct stat *file = &save->state.seen.found;
-    struct step step = {.kind = kind, .from = from, .to = to, .id = {.device = file->st_dev, .inode = file->st_ino},
-                        .seconds = changed->tv_sec, .nanos = (uint32_t)changed->tv_nsec};
+    struct stat found = {0};
+    const struct stat *seen = &save->state.seen.found;
     if (save->step < 0) return;
+    if (file < 0 ? clock_gettime(CLOCK_REALTIME, &found.st_mtim) != 0 : fstat(file, &found) != 0) return;
+    struct step step = {.kind = kind, .from = from, .to = to, .id = {.device = seen->st_dev, .inode = seen->st_ino},
+                        .seconds = found.st_mtim.tv_sec, .nanos = (uint32_t)found.st_mtim.tv_nsec};
     snprintf(step.boot, sizeof step.boot, "%s", save->saver->boot);
     words_of_step(&step, words);
     if (pwrite(save->step, words, strlen(words), 0) < 0) return;
 }
 
-/* The same for FILE as it is now, or, before it is changed (-1), at the time of day. */
-static void note_step_now(const struct save *save, enum step_kind kind, int file, size_t from, size_t to) {
-    struct stat found;
-    struct timespec today = {0};
-    clock_gettime(CLOCK_REALTIME, &today);
-    if (file < 0) note_step(save, kind, &today, from, to);
-    else if (save->step >= 0 && fstat(file, &found) == 0) note_step(save, kind, &found.st_mtim, from, to);
-}
-
-/* Opens the record of steps in the session's folder, and puts it on the disk. If FILE is torn by an earlier save, that one's step stays. */
-static int open_steps(struct save *save) {
-    save->step = openat(save->saver->backup_folder, STEP_NAME, O_WRONLY | O_CREAT | O_NOFOLLOW | O_CLOEXEC, 0600);
-    if (save->step < 0) return errno;
-    if (!save->state.is_torn) note_step_now(save, STEP_READY, -1, 0, 0);
-    return sync_file(save->step);
-}
-
-/* Makes the draft the backup. The backup and its name are on the disk before FILE changes. */
+/* Makes the draft the backup. The backup, its name and the record of steps are on the disk before FILE changes. */
 static int keep_backup(struct save *save) {
-    int backup_folder = save->saver->backup_folder;
-    if (backup_folder < 0) {
-        int error = name_backup(save);
-        return error == 0 ? sync_folder(&save->draft, save->folder_to_sync) : error;
-    }
-    if (renameat(backup_folder, BACKUP_DRAFT_NAME, backup_folder, BACKUP_NAME) != 0) return errno;
+    int own = save->saver->backup_folder, error = own < 0 ? name_backup(save) : 0;
+    if (own < 0) return error == 0 ? sync_folder(save) : error;
+    if (renameat(own, BACKUP_DRAFT_NAME, own, BACKUP_NAME) != 0) return errno;
     snprintf(save->draft.name, sizeof save->draft.name, "%s", BACKUP_NAME);
-    int error = open_steps(save);
-    if (error != 0) return error;
-    int folder = openat(backup_folder, ".", O_RDONLY | O_DIRECTORY | O_CLOEXEC);
+    save->step = openat(own, STEP_NAME, O_WRONLY | O_CREAT | O_NOFOLLOW | O_CLOEXEC, 0600);
+    int folder = save->step < 0 ? -1 : openat(own, ".", O_RDONLY | O_DIRECTORY | O_CLOEXEC);
     if (folder < 0) return errno;
-    error = sync_file(folder);
+    /* if FILE is torn by an earlier save, that one's step stays */
+    if (!save->state.is_torn) note_step(save, STEP_READY, -1, 0, 0);
+    error = sync_file(save->step);
+    if (error == 0) error = sync_file(folder);
     close(folder);
     return error;
 }
@@ -383,10 +354,10 @@ static int fill(const struct save *save, int file, const unsigned char *bytes, s
     int error = lseek(file, 0, SEEK_SET) == 0 ? 0 : errno;
     for (size_t done = 0, piece; error == 0 && done < length; done += piece) {
         piece = length - done < PIECE ? length - done : PIECE;
-        note_step_now(save, STEP_PARTLY, file, done, done + piece);
+        note_step(save, STEP_PARTLY, file, done, done + piece);
         error = write_bytes(file, bytes + done, piece);
     }
-    if (error == 0) note_step_now(save, STEP_WHOLE, file, length, length);
+    if (error == 0) note_step(save, STEP_WHOLE, file, length, length);
     return error == 0 ? sync_file(file) : error;
 }
 
@@ -403,7 +374,7 @@ static unsigned char *read_old(const struct save *save, int file) {
 static int overwrite(struct save *save, int file) {
     size_t old_length = (size_t)save->state.seen.found.st_size;
     unsigned char *old = save->state.is_torn ? NULL : read_old(save, file);
-    note_step_now(save, STEP_PARTLY, -1, 0, 0);
+    note_step(save, STEP_PARTLY, -1, 0, 0);
     int error = ftruncate(file, 0) == 0 ? 0 : errno;
     if (error == 0) {
         note_torn(save);

@@ -2,7 +2,6 @@
  * promises. */
 #include <errno.h>
 #include <fcntl.h>
-#include <poll.h>
 #include <stdint.h>
 #include <stdio.h>
 #include <stdlib.h>
@@ -12,7 +11,6 @@
 #include <unistd.h>
 
 #include "edit.h"
-#include "parts.h"
 #include "say.h"
 #include "signals.h"
 #include "util.h"
@@ -33,22 +31,30 @@ static enum replayed replayed_of(const struct said *said, int status) {
     return REPLAY_FAILED;
 }
 
+/* Whether FILE has the text that it had when a session with an unsaved text began. */
+static bool has_known_text(const struct edit *edit, const struct session *session) {
+    struct sum found;
+    if (!session->about.has_known) return false;
+    sum_begin(&found);
+    return (edit->file.text < 0 || sum_file(edit->file.text, &found)) && is_same_sum(&found, &session->about.known);
+}
+
 enum replayed replay(struct edit *edit, const struct session *session, int *text, int64_t limit) {
     struct run run = {0};
     struct words words = {.count = 0};
-    struct begin begin;
+    const struct begin *begin = &session->about.begin;
     *text = -1;
-    if (session->text < 0 || session->journal < 0 || !session_begin_words(session, &begin)) return REPLAY_UNREADABLE;
+    if (session->text < 0 || session->journal < 0 || !session->about.has_begin || !session->about.has_text) return REPLAY_UNREADABLE;
     int made = memfd_create("bidi-edit", MFD_CLOEXEC);
     if (made < 0) return REPLAY_FAILED;
     add_word(&words, edit->programs->editor);
-    add_option(&words, "--rows", text_of("%u", begin.rows));
-    add_option(&words, "--cols", text_of("%u", begin.cols));
-    add_option(&words, "--direction", begin.direction);
-    if (begin.line > 0) add_option(&words, "--line", text_of("%u", begin.line));
+    add_option(&words, "--rows", text_of("%u", begin->rows));
+    add_option(&words, "--cols", text_of("%u", begin->cols));
+    add_option(&words, "--direction", begin->direction);
+    if (begin->line > 0) add_option(&words, "--line", text_of("%u", begin->line));
     /* joined letters change no text and no place */
     add_tables(&words, &edit->tables, false);
-    if (session_has(session, PART_UNSAVED)) add_word(&words, "--unsaved");
+    if (session_has_mark(session, MARK_UNSAVED)) add_word(&words, "--unsaved");
     add_option(&words, "--text", handed_path(&run, session->text));
     add_word(&words, "--frames");
     add_option(&words, "--replay", handed_path(&run, session->journal));
@@ -60,12 +66,12 @@ enum replayed replay(struct edit *edit, const struct session *session, int *text
     enum replayed replayed = replayed_of(&run.said, status);
     if (replayed == REPLAY_UNREADABLE || replayed == REPLAY_FAILED) close(made);
     else *text = made;
-    return replayed;
+    return replayed == REPLAY_FOREIGN && has_known_text(edit, session) ? REPLAY_KNOWN : replayed;
 }
 
-/* Whether FILE has exactly the text of a session's part. */
-static bool is_in_part(const struct edit *edit, const struct session *session, enum part part) {
-    int file = session_open(session, part);
+/* Whether FILE has exactly the text of a file of the session. */
+static bool is_in_file(const struct edit *edit, const struct session *session, const char *name) {
+    int file = session_open(session, name);
     bool is_same = file >= 0 && judge_file(file, edit->file.text) == FILE_WHOLE;
     if (file >= 0) close(file);
     return is_same;
@@ -73,16 +79,16 @@ static bool is_in_part(const struct edit *edit, const struct session *session, e
 
 enum replayed compare_text(const struct edit *edit, const struct session *session) {
     if (!edit->file.stamp.is_there) return REPLAY_KNOWN;
-    if (is_in_part(edit, session, PART_SNAPSHOT)) return REPLAY_SAME;
-    bool is_known = is_in_part(edit, session, PART_TEXT) || is_in_part(edit, session, PART_SAVE);
+    if (is_in_file(edit, session, SNAPSHOT_NAME)) return REPLAY_SAME;
+    bool is_known = is_in_file(edit, session, TEXT_NAME) || is_in_file(edit, session, SAVED_NAME) || has_known_text(edit, session);
     return is_known ? REPLAY_KNOWN : REPLAY_FOREIGN;
 }
 
 /* ---- what is told of FILE */
 
-/* Milliseconds. COPY_MS: to finish copying FILE's text, unless a signal came. WRITE_MS: to write what the session still lacks after that.
- * REPLAY_MS: for a replay. The latter two are shorter after a signal. */
-enum { COPY_MS = 30000, WRITE_MS = 5000, WRITE_BY_SIGNAL_MS = 700, REPLAY_MS = 2000, REPLAY_BY_SIGNAL_MS = 1000 };
+/* The milliseconds that a replay may take, and the bytes of the largest journal that is replayed at the end; less after a signal. 20,000 keys
+ * take a second or two, and a large paste in one line takes longer. */
+enum { REPLAY_MS = 2000, REPLAY_BY_SIGNAL_MS = 1000, LONGEST = 200000, LONGEST_BY_SIGNAL = 20000 };
 
 /* Whether the last fault that the program reported is of this kind; gives its value. */
 static bool is_fault(const struct edit *edit, const char *kind, const char **value) {
@@ -140,17 +146,6 @@ static int open_now(const struct edit *edit, struct stat *look) {
     return file;
 }
 
-/* If FILE was gone and a recovery saved it, gives it the permissions that it had, unless it has other names. */
-static void give_mode(const struct edit *edit) {
-    struct stat look;
-    if (edit->lost_mode < 0 || !edit->was_saved) return;
-    int file = open_now(edit, &look);
-    if (file < 0) return;
-    /* if this fails, only the user can read and write the file */
-    if (look.st_nlink == 1 && fchmod(file, (mode_t)edit->lost_mode & PERMISSIONS) != 0) errno = 0;
-    close(file);
-}
-
 /* Whether FILE is there now. */
 static bool is_there_now(const struct edit *edit) {
     struct file_stamp stamp;
@@ -173,15 +168,26 @@ static bool mend_now(struct edit *edit) {
         tell_mended(edit, &mending, warn);
     }
     if (!edit->is_in_place) return false;
-    if (session_mend(&edit->session, &edit->sessions, &edit->target, &mending) != 0) return session_has(&edit->session, PART_BACKUP);
+    if (session_mend(&edit->session, &edit->sessions, &edit->target, &mending)) return session_has(&edit->session, BACKUP_NAME);
     return tell_mended(edit, &mending, warn);
 }
 
 /* ---- the session */
 
+/* How the program left the text. */
+static enum left_how left_how(enum end_word end, bool is_refused) {
+    if (is_refused) return LEFT_REFUSED;
+    switch (end) {
+    case END_SAVED: return LEFT_SAVED;
+    case END_DROPPED: return LEFT_DROPPED;
+    case END_UNSAVED: return LEFT_UNSAVED;
+    default: return LEFT_UNKNOWN;
+    }
+}
+
 /* Says that unsaved text is lost, if there may be any. */
 static void tell_lost(enum left_how how, const char *cause) {
-    if (may_be_unsaved(how)) warn("any unsaved text is lost, since %s", cause);
+    if (how == LEFT_UNSAVED || how == LEFT_UNKNOWN) warn("any unsaved text is lost, since %s", cause);
 }
 
 /* Tells that the session's folder is gone, so that nothing unsaved can be recovered. */
@@ -195,7 +201,8 @@ static void tell_gone(const struct edit *edit, enum left_how how) {
 static const char *cause_of_lost(const struct edit *edit) {
     if (edit->unkept) return edit->unkept;
     if (edit->session.is_changed) return text_of("%s was changed before it could be copied", shown(edit->file.typed));
-    return text_of("nothing can be written in %s", shown(edit->session.path));
+    if (edit->session.cause) return text_of("nothing can be written in %s", shown(edit->session.path));
+    return text_of("something has removed files from %s", shown(edit->session.path));
 }
 
 /* Whether the tables and programs are those with which the session began. */
@@ -211,7 +218,7 @@ static void put_snapshot(struct session *session, int text) {
     size_t length = (size_t)look.st_size;
     void *bytes = length > 0 ? mmap(NULL, length, PROT_READ, MAP_PRIVATE, text, 0) : NULL;
     if (bytes == MAP_FAILED) return;
-    session_put(session, PART_SNAPSHOT, bytes, length);
+    session_put(session, SNAPSHOT_NAME, bytes, length);
     if (bytes) munmap(bytes, length);
 }
 
@@ -221,7 +228,7 @@ static bool leave_text(struct edit *edit) {
     struct session *session = &edit->session;
     struct stat look;
     int text;
-    if (!is_replayed_at_end(session_journal_size(session), end_signal != 0) || !has_same_versions(edit)) return false;
+    if (session_journal_size(session) > (end_signal ? LONGEST_BY_SIGNAL : LONGEST) || !has_same_versions(edit)) return false;
     /* FILE as it is now */
     if (edit->file.text >= 0) close(edit->file.text);
     edit->file.text = open_now(edit, &look);
@@ -246,20 +253,9 @@ static void note_moved(struct edit *edit) {
     if (is_folder_gone(file) || !path_of(file->folder, folder)) return;
     bool has_moved = strcmp(folder, file->folder_path) != 0;
     if (has_moved) edit->moved = text_of("%s/%s", before_slash(folder), file->name);
-    if (has_moved && edit->aside_of) session_put(&edit->session, PART_BESIDE, edit->moved, strlen(edit->moved));
+    if (has_moved && edit->aside_of) put_path(edit->session.about.beside, "%s", edit->moved);
     target_look(&edit->target, has_moved ? edit->moved : file->path, file->folder, file->name);
     session_note_file(&edit->session, &edit->target);
-}
-
-/* Waits for the child that copies, as long as no signal asks for the end, and then settles the session. Returns whether it can be
- * recovered. */
-static bool settle(struct session *session) {
-    int64_t end = now() + COPY_MS;
-    struct pollfd copied = {.fd = session->report, .events = POLLIN};
-    while (session->report >= 0 && !end_signal && now() < end) {
-        if (wait_for(&copied, 1, end) > 0) break;
-    }
-    return session_settle(session, (int)within(end_signal ? WRITE_BY_SIGNAL_MS : WRITE_MS));
 }
 
 /* Collects what decides the session's fate. On the way it leaves the replayed text in the session. */
@@ -268,12 +264,12 @@ static struct left left_of(struct edit *edit, enum left_how how) {
     struct left left = {.how = how, .is_there = session_is_there(session)};
     if (!left.is_there) return left;
     left.is_torn = mend_now(edit);
-    left.has_keys = session_has_keys(session) || session_has(session, PART_UNSAVED);
+    left.has_keys = session_has_keys(session) || session_has_mark(session, MARK_UNSAVED);
     bool is_wanted = left.is_torn || (left.has_keys && how != LEFT_SAVED);
     if (is_wanted) note_moved(edit);
-    left.is_filled = is_wanted && settle(session);
-    if (session->is_journal_behind) edit->facts.is_journal_lost = true;
-    left.is_secret = session_has(session, PART_SECRET);
+    if (edit->facts.is_journal_lost && is_wanted) session->about.marks |= MARK_CUT;
+    left.is_filled = is_wanted && session_settle(session, end_signal != 0);
+    left.is_secret = session_has_mark(session, MARK_SECRET);
     left.is_same = left.is_filled && left.has_keys && leave_text(edit);
     return left;
 }
@@ -301,24 +297,17 @@ static void tell_kept(const struct edit *edit, const char *what, const char *beh
 
 /* Keeps a session whose changes were dropped, as the only one of its kind, so that a hasty Quit can be undone. */
 static void drop_changes(struct edit *edit) {
-    if (edit->facts.is_journal_lost) session_note_cut(&edit->session);
     sessions_forget_dropped(&edit->sessions, &edit->session);
     /* if this fails, the next start asks about the session */
-    session_put_empty(&edit->session, PART_DROPPED);
+    session_mark(&edit->session, MARK_DROPPED);
     tell_kept(edit, "the dropped changes can be recovered", "");
 }
 
 /* Removes a session whose changes were dropped, as it has text that only root could read. */
 static void wipe_changes(struct edit *edit) {
-    int error = session_remove(&edit->session);
-    if (error == 0) warn("the dropped changes are not kept, since only root can read %s", shown(edit->file.typed));
-    else warn("the dropped changes cannot be deleted from %s%s", shown(edit->session.path), fault_words(error));
-}
-
-/* Leaves the session to be recovered, and says so. */
-static void leave_session(struct edit *edit) {
-    if (edit->facts.is_journal_lost) session_note_cut(&edit->session);
-    tell_kept(edit, "unsaved text is kept", " restores it");
+    enum cause cause = session_remove(&edit->session);
+    if (!cause) warn("the dropped changes are not kept, since only root can read %s", shown(edit->file.typed));
+    else warn("the dropped changes cannot be deleted from %s%s", shown(edit->session.path), fault_words(cause));
 }
 
 /* Ends a session that was kept, by its fate, and tells what is lost. FATE_REMOVED is silent unless keys were lost. */
@@ -331,10 +320,10 @@ static void end_kept(struct edit *edit, enum left_how how) {
         if (!left.has_keys && edit->facts.is_journal_lost) tell_lost(how, "the journal could not be written");
         session_remove(session);
         break;
-    case FATE_LOST: tell_lost(how, text_of("%s; what could be kept is in %s", cause_of_lost(edit), shown(session->path))); break;
+    case FATE_LOST: tell_lost(how, cause_of_lost(edit)); break;
     case FATE_DROPPED: drop_changes(edit); break;
     case FATE_WIPED: wipe_changes(edit); break;
-    case FATE_KEPT: leave_session(edit); break;
+    case FATE_KEPT: tell_kept(edit, "unsaved text is kept", " restores it"); break;
     }
 }
 
@@ -349,7 +338,6 @@ static void tell_signal(int status) {
 int end_session(struct edit *edit) {
     bool is_refused = tell_fault_of(edit) || !edit->run.said.is_opened;
     enum left_how how = left_how(edit->run.said.end, is_refused);
-    give_mode(edit);
     tell_aside(edit);
     if (!session_is_none(&edit->session)) {
         end_kept(edit, how);

@@ -86,7 +86,7 @@ bool write_queue(struct frame_queue *queue, int file);
  * are kept as `foreign`. */
 enum { FOREIGN_MOST = 4096 };
 struct word_reader {
-    unsigned char bytes[2 * (FRAME_HEAD + WORD_MOST)];
+    unsigned char bytes[FRAME_HEAD + WORD_MOST + 1];
     size_t length, foreign_length;
     char foreign[FOREIGN_MOST];
 };

@@ -10,14 +10,17 @@
 #include <unistd.h>
 
 #include "edit.h"
-#include "parts.h"
 #include "say.h"
 #include "signals.h"
 #include "util.h"
 
 /* Milliseconds. MIND_MS: between two looks at the session. LATE_MS: what is not looked after for so long counts as not kept. TELL_MS: after
- * which the end says what it waits for. STEP_MS: between two looks for a signal at the end. */
-enum { MIND_MS = 1000, LATE_MS = 5000, TELL_MS = 2000, STEP_MS = 100 };
+ * which the end says what it waits for. STEP_MS: between two looks for a signal at the end. LONGEST_END_MS: in which a program ends after
+ * the host was killed. */
+enum { MIND_MS = 1000, LATE_MS = 5000, TELL_MS = 2000, STEP_MS = 100, LONGEST_END_MS = 4000 };
+
+/* The space that must stay free for keys, in bytes. */
+enum { ROOM_FOR_KEYS = 8192 };
 
 /* What the host tells the keeper: one byte each; after END come the bytes of a struct ending. */
 enum order { ORDER_SAVED = 's', ORDER_LOST = 'l', ORDER_KEPT = 'k', ORDER_END = 'e' };
@@ -33,7 +36,7 @@ struct ending {
 /* What the keeper tells the host after each look. `journal`: why the journal cannot be written, if it cannot. */
 struct report {
     enum keeping keeping;
-    int error;
+    enum cause cause;
     bool is_filled;
     enum notice journal;
 };
@@ -48,8 +51,8 @@ static int64_t reported;
 /* The probable reason why the program cannot write the journal. */
 static enum notice cause_of_loss(const struct session *session) {
     if (free_room(session->folder) < ROOM_FOR_KEYS) return NOTICE_NO_SPACE;
-    int file = openat(session->folder, part_name(PART_JOURNAL), O_WRONLY | O_APPEND | O_NOFOLLOW | O_CLOEXEC);
-    enum notice notice = file < 0 ? notice_of(errno) : NOTICE_UNKEPT;
+    int file = part_open(session->folder, JOURNAL_NAME, O_WRONLY | O_APPEND);
+    enum notice notice = file < 0 ? notice_of(cause_of(errno)) : NOTICE_UNKEPT;
     if (file >= 0) close(file);
     return notice == NOTICE_FOLDER_GONE ? NOTICE_UNKEPT : notice;
 }
@@ -66,8 +69,9 @@ static void note_saved(struct edit *edit) {
 /* Looks after the session, and reports. The first time, this has its files written. */
 static void mind(struct edit *edit, int report) {
     struct session *session = &edit->session;
-    struct report said = {.keeping = session_mind(session), .error = session->error, .is_filled = session->is_filled};
-    if (said.is_filled) release_file(&edit->file);
+    struct report said = {.keeping = session_mind(session), .cause = session->cause, .is_filled = session->about.has_text};
+    /* of a FILE that was refused the end says more */
+    if (said.is_filled && edit->run.said.is_opened) release_file(&edit->file);
     said.journal = edit->facts.is_journal_lost ? cause_of_loss(session) : NOTICE_NONE;
     /* a host that reads none is ending */
     if (write(report, &said, sizeof said) < 0) errno = 0;
@@ -99,18 +103,28 @@ static _Noreturn void end_as_told(struct edit *edit, int file) {
     _exit(end_session(edit));
 }
 
-/* The keeper's life: looks after the session each second and after each order, until the end. If the host is killed, its journal and text
- * stay as they are. */
-static _Noreturn void keep(struct edit *edit, int order_file, int report) {
+/* The host was killed, and its program ends by that. A program that had saved all has emptied the journal, and the session goes. Else it
+ * stays, with the last keys. */
+static _Noreturn void end_alone(struct session *session, int program) {
+    struct pollfd ended = {.fd = program, .events = POLLIN};
+    if (session_is_none(session)) _exit(0);
+    if (program >= 0) poll(&ended, 1, LONGEST_END_MS);
+    if (session_journal_size(session) == 0 && session->about.has_text && !session_has(session, BACKUP_NAME)) session_remove(session);
+    else session_settle(session, true);
+    _exit(0);
+}
+
+/* The keeper's life: looks after the session each second and after each order, until the end. */
+static _Noreturn void keep(struct edit *edit, int order_file, int report, int program) {
     bool has_session = !session_is_none(&edit->session);
     for (char order = 0;;) {
         if (has_session && order != ORDER_END) mind(edit, report);
         struct pollfd told = {.fd = order_file, .events = POLLIN};
         /* signals to the whole job wait until the end */
-        int count = poll(&told, 1, has_session ? MIND_MS : -1);
+        int count = poll(&told, 1, !has_session ? -1 : session_is_due(&edit->session) ? 0 : MIND_MS);
         order = 0;
         if (count <= 0) continue;
-        if (!read_whole(order_file, &order, 1)) _exit(0);
+        if (!read_whole(order_file, &order, 1)) end_alone(&edit->session, program);
         if (order == ORDER_END) end_as_told(edit, order_file);
         if (order == ORDER_SAVED && has_session) note_saved(edit);
         if (order == ORDER_LOST || order == ORDER_KEPT) edit->facts.is_journal_lost = order == ORDER_LOST;
@@ -132,10 +146,10 @@ bool keeper_start(struct edit *edit) {
     keeper = is_open ? fork() : -1;
     if (keeper == 0) {
         prctl(PR_SET_NAME, "bidi-keeper");
-        leave_run();
+        int program = leave_run();
         close(told[1]);
         close(said[0]);
-        keep(edit, told[0], said[1]);
+        keep(edit, told[0], said[1], program);
     }
     close(told[0]);
     close(said[1]);
@@ -167,13 +181,13 @@ void keeper_hear(struct now_facts *facts) {
     while (reports >= 0 && read(reports, &said, sizeof said) == (ssize_t)sizeof said) {
         reported = now();
         facts->keeping = said.keeping;
-        facts->error = said.error;
+        facts->cause = said.cause;
         facts->is_filled = said.is_filled;
         facts->journal = said.journal;
     }
     if (now() - reported >= LATE_MS) {
         facts->keeping = KEEPS_NOT_YET;
-        facts->error = ETIMEDOUT;
+        facts->cause = CAUSE_OTHER;
     }
 }
 

@@ -3,16 +3,17 @@
 #include "signals.h"
 
 #include <errno.h>
-#include <sys/time.h>
+#include <fcntl.h>
+#include <sys/stat.h>
 #include <sys/wait.h>
 #include <time.h>
 #include <unistd.h>
 
-/* Milliseconds. A timer interrupts each piece of a write after PIECE_MS, and again after each RING_MS. A wait for a child looks for its end
- * at least every LOOK_MS. */
-enum { PIECE_MS = 100, RING_MS = 20, LOOK_MS = 50 };
-/* WRITE_PIECE: a pipe that is ready takes so many bytes at once. WRITE_TRIES: how often a write or wait that fails is tried. */
-enum { WRITE_PIECE = 4096, WRITE_TRIES = 3 };
+#include "util.h"
+
+/* A wait for a child looks for its end at least every LOOK_MS. WRITE_PIECE: a pipe that is ready takes so many bytes at once. WRITE_TRIES: how
+ * often a write or wait that fails is tried. */
+enum { LOOK_MS = 50, WRITE_PIECE = 4096, WRITE_TRIES = 3 };
 
 volatile sig_atomic_t end_signal, is_resized, is_continued, is_stop_asked;
 /* When it came. */
@@ -55,9 +56,8 @@ static void note_waking(int number, siginfo_t *info, void *context) {
     if (number == SIGTSTP) is_stop_asked = 1;
 }
 
-/* Whether a write of the host's own is the cause, or its timer. */
+/* Whether a write of the host's own is the cause. */
 static bool is_own_signal(int number, const siginfo_t *info) {
-    if (number == SIGALRM) return info->si_code == SI_KERNEL;
     return (number == SIGPIPE || number == SIGXFSZ) && info->si_pid == getpid();
 }
 
@@ -77,17 +77,13 @@ static bool is_ignored(int number) {
     return sigaction(number, NULL, &before) != 0 || (!(before.sa_flags & SA_SIGINFO) && before.sa_handler == SIG_IGN);
 }
 
-/* Has a signal handled by this function from now on. */
+/* Has a signal handled by this function from now on, unless the caller of the host ignores it. */
 static void handle(int number, void (*handler)(int, siginfo_t *, void *)) {
     struct sigaction action = {.sa_flags = SA_SIGINFO};
+    if (is_ignored(number) && number != SIGCHLD && number != SIGCONT && number != SIGWINCH) return;
     sigemptyset(&action.sa_mask);
     action.sa_sigaction = handler;
     sigaction(number, &action, NULL);
-}
-
-/* Handles a signal that asks for the end, unless the caller of the host ignores it. */
-static void handle_ending(int number, void (*handler)(int, siginfo_t *, void *)) {
-    if (number == SIGALRM || !is_ignored(number)) handle(number, handler);
 }
 
 /* Blocks signals except while the host waits (`waiting_mask`). */
@@ -107,40 +103,35 @@ void set_first_signals(void) {
     waiting_mask = first_mask;
     block(child, 1);
     handle(SIGCHLD, note_waking);
-    handle_ending(SIGPIPE, die_unless_own);
-    handle_ending(SIGXFSZ, die_unless_own);
+    handle(SIGPIPE, die_unless_own);
+    handle(SIGXFSZ, die_unless_own);
 }
 
 void catch_signals(void) {
     block(ending, ENDING);
     block(waking, WAKING);
-    for (size_t i = 0; i < ENDING; i++) handle_ending(ending[i], note_ending);
+    for (size_t i = 0; i < ENDING; i++) handle(ending[i], note_ending);
     for (size_t i = 0; i < WAKING; i++) handle(waking[i], note_waking);
     if (is_ignored(SIGTSTP)) return;
     block(stopping, 1);
     handle(SIGTSTP, note_waking);
 }
 
-/* Lets a signal come now, or blocks it again. */
-static void let_signal_in(int number, bool is_let) {
-    sigset_t mask;
-    sigemptyset(&mask);
-    sigaddset(&mask, number);
-    sigprocmask(is_let ? SIG_UNBLOCK : SIG_BLOCK, &mask, NULL);
-}
-
 void let_stops_in(void) {
+    sigset_t mask;
     if (is_ignored(SIGTSTP)) return;
     signal(SIGTSTP, SIG_DFL);
     if (is_stop_asked) kill(getpid(), SIGTSTP);
     is_stop_asked = 0;
-    let_signal_in(SIGTSTP, true);
+    sigemptyset(&mask);
+    sigaddset(&mask, SIGTSTP);
+    sigprocmask(SIG_UNBLOCK, &mask, NULL);
 }
 
 void stop_here(void) {
     is_stop_asked = 1;
     let_stops_in();
-    let_signal_in(SIGTSTP, false);
+    block(stopping, 1);
     handle(SIGTSTP, note_waking);
 }
 
@@ -180,45 +171,31 @@ void listen_once(void) {
     wait_for(NULL, 0, 1);
 }
 
-/* Waits until the file takes bytes, until the time `end` (forever if that is 0). The last writes handle no signals. */
-static bool is_ready(int file, int64_t end, bool is_last) {
-    int tries = WRITE_TRIES;
-    while (is_last || !end_signal) {
-        struct pollfd wanted = {.fd = file, .events = POLLOUT};
-        int64_t left = end - now();
-        int count = is_last ? poll(&wanted, 1, left > 0 ? (int)left : 0) : wait_for(&wanted, 1, end);
-        if (count > 0) return (wanted.revents & POLLNVAL) == 0;
-        if (count < 0 && errno != EINTR && --tries == 0) return false;
-        if (end != 0 && now() >= end) return false;
-    }
-    return false;
-}
-
-/* Writes once. The timer repeats, since its first signal may come before the write begins. */
-static ssize_t write_piece(int file, const char *text, size_t length) {
-    struct itimerval timer = {{0, RING_MS * 1000L}, {0, PIECE_MS * 1000L}}, none = {{0, 0}, {0, 0}};
-    let_signal_in(SIGALRM, true);
-    setitimer(ITIMER_REAL, &timer, NULL);
-    ssize_t count = write(file, text, length);
-    int error = errno;
-    setitimer(ITIMER_REAL, &none, NULL);
-    let_signal_in(SIGALRM, false);
-    errno = error;
-    return count;
+/* Opens a terminal or pipe once more, so that no write blocks; gives the file itself where that is not needed or fails. After su, the device
+ * of the terminal is another user's, but not /dev/tty. */
+static int without_blocking(int file) {
+    struct stat look;
+    if (fstat(file, &look) != 0 || (!S_ISCHR(look.st_mode) && !S_ISFIFO(look.st_mode)) || fcntl(file, F_GETFL) & O_NONBLOCK) return file;
+    int again = open(link_of(file).path, O_WRONLY | O_NONBLOCK | O_NOCTTY | O_CLOEXEC);
+    if (again < 0 && isatty(file)) again = open("/dev/tty", O_WRONLY | O_NONBLOCK | O_NOCTTY | O_CLOEXEC);
+    return again < 0 ? file : again;
 }
 
 void write_within(int file, const char *text, size_t length, int64_t limit, bool is_last) {
     int64_t end = limit == 0 ? 0 : now() + (is_last ? within(limit) : limit);
-    int tries = WRITE_TRIES;
-    while (length > 0 && tries > 0 && is_ready(file, end, is_last)) {
-        ssize_t count = write_piece(file, text, length < WRITE_PIECE ? length : WRITE_PIECE);
-        if (count > 0) {
-            text += count;
-            length -= (size_t)count;
-        } else if (count < 0 && errno != EINTR && errno != EAGAIN) {
-            tries--;
-        }
+    int to = without_blocking(file), tries = WRITE_TRIES;
+    while (length > 0 && tries > 0 && (is_last || !end_signal)) {
+        struct pollfd wanted = {.fd = to, .events = POLLOUT};
+        int64_t left = end - now();
+        /* the last writes handle no signals */
+        int ready = is_last ? poll(&wanted, 1, left > 0 ? (int)left : 0) : wait_for(&wanted, 1, end);
+        if (ready > 0 && wanted.revents & POLLNVAL) break;
+        ssize_t count = ready > 0 ? write(to, text, length < WRITE_PIECE ? length : WRITE_PIECE) : 0;
+        if (count > 0) text += count, length -= (size_t)count;
+        if ((ready < 0 || count < 0) && errno != EINTR && errno != EAGAIN) tries--;
+        if (count <= 0 && end != 0 && now() >= end) break;
     }
+    if (to != file) close(to);
 }
 
 bool wait_for_child(pid_t *child, int *status, int64_t end) {

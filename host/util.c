@@ -150,6 +150,18 @@ const char *next_entry(DIR *entries) {
     return entry ? entry->d_name : NULL;
 }
 
+char process_state(pid_t process) {
+    char path[64], look[512];
+    snprintf(path, sizeof path, "/proc/%ld/stat", (long)process);
+    int file = open(path, O_RDONLY | O_CLOEXEC);
+    ssize_t length = file < 0 ? 0 : read(file, look, sizeof look - 1);
+    close_one(&file);
+    look[length > 0 ? length : 0] = 0;
+    /* after its name, which may have any letters */
+    const char *at = strrchr(look, ')');
+    return at && at[1] == ' ' && at[2] ? at[2] : 'Z';
+}
+
 bool is_lacking(int error) {
     return error == ENOSYS || error == EINVAL || error == EOPNOTSUPP;
 }

@@ -50,6 +50,9 @@ int read_pieces(int file, off_t place, void (*read)(void *, const char *, size_t
 DIR *open_entries(int folder);
 const char *next_entry(DIR *entries);
 
+/* The state of a process as the kernel names it: S or D is asleep, R at work, T stopped; Z if it has ended. */
+char process_state(pid_t process);
+
 /* Whether a call failed because the system or the file system does not have it. */
 bool is_lacking(int error);
 

@@ -25,7 +25,7 @@ enum call_kind { CALL_HELP, CALL_VERSION, CALL_PRINT, CALL_LIST, CALL_FORGET, CA
 /* What a command line asks for. */
 struct call {
     enum call_kind kind;
-    /* FILE's path, with ./ before it if it begins as an option; NULL for a list, or to forget all sessions. */
+    /* FILE's path, with ./ before it if it begins as an option; NULL for a list, or to forget all sessions; /dev/stdin to print -. */
     const char *file;
     /* Where a recovered text is stored; NULL to go on with the session. */
     const char *other;
@@ -45,6 +45,9 @@ struct call {
 int read_words(int count, char *const *words, struct call *call, const char **cause);
 
 extern const char help_text[];
+
+/* The first line of a file; NULL without one. */
+const char *first_line(const char *path);
 
 /* The text of --version, of the toolchain that was noted at the build, if any, and of the file DerivedBidiClass.txt. */
 const char *version_text(const char *toolchain, const char *classes);

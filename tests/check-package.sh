@@ -1,6 +1,6 @@
 #!/bin/sh
 # check-package.sh [NAME..]: makes the Debian package and the tar file twice, in several folders, and tries both: equal bytes, lintian
-# and two readers of manuals, what is in them, the list of parts (SPDX), and NOTICE. It installs the package by dpkg into a folder, uses
+# and two readers of manuals, what is in them, the list of parts (SPDX), NOTICE, and how three shells complete options. It installs the package by dpkg into a folder, uses
 # it there in tmux as an ordinary user, with and without HOME, removes it, and looks for what is left; the tree of the tar file is used
 # too. `chroot`, which only its NAME selects, does the same in a fresh Debian, which debootstrap fetches in a minute. Checks without
 # their tool are skipped. The last line has the totals. Exit status 1: a check failed; 77: there is no dpkg-deb or no git.
@@ -46,7 +46,7 @@ has_tool() { # NAME TOOL
     return 1
 }
 
-for part in making reading using chroot; do
+for part in making reading completing using chroot; do
     # shellcheck source=/dev/null
     . "$here/package/$part.sh"
 done
@@ -66,6 +66,8 @@ run manual check_manual
 run files check_files
 run parts check_parts
 run notice check_notice
+run completions check_completions
+run desktop check_desktop
 run dpkg check_dpkg
 run tar check_tar
 case " $wanted " in *' chroot '*) check_chroot chroot ;; esac

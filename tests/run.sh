@@ -37,7 +37,7 @@ files 300 check-files.sh
 session-files 300 check-session-files.sh
 keeping 300 check-keeping.sh
 dist 300 check-dist.sh
-package 300 check-package.sh
+package 480 check-package.sh
 words 300 check-words.sh
 TEXT
 }

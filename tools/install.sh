@@ -14,13 +14,24 @@ top=$(CDPATH='' cd -- "$(dirname -- "$0")/.." && pwd)
 # shellcheck source=tools/package/tree.sh
 . "$top/tools/package/tree.sh"
 
-# Sets `is_removal`, `prefix`, `lib` and `record`.
+refuse() { # CAUSE
+    printf 'install.sh: %s\n' "$1" >&2
+    exit 1
+}
+
+# Sets `is_removal`, `prefix`, `lib` and `record`. The option may stand before PREFIX or after it.
 read_words() { # WORD..
     is_removal=''
-    if [ "${1:-}" = --uninstall ]; then
+    case $#:${1:-}:${2:-} in
+    1:--uninstall: | 2:--uninstall:*)
         is_removal=1
         shift
-    fi
+        ;;
+    2:*:--uninstall)
+        is_removal=1
+        set -- "$1"
+        ;;
+    esac
     case $#:${1:-} in
     [01]: | 1:[!-]*) ;;
     *)
@@ -28,14 +39,10 @@ read_words() { # WORD..
         exit 2
         ;;
     esac
-    prefix=${1:-${HOME:?}/.local}
+    [ -n "${1:-}" ] || [ -n "${HOME:-}" ] || refuse 'HOME is not set: name a PREFIX'
+    prefix=${1:-$HOME/.local}
     lib=$prefix/lib/bidi_edit
     record=$lib/installed
-}
-
-refuse() { # CAUSE
-    printf 'install.sh: %s\n' "$1" >&2
-    exit 1
 }
 
 # ---- the installed files
@@ -130,6 +137,25 @@ put_there() {
     check_places
     exchange
     printf '%s\n' "$(shown "$prefix/bin/bidi-edit")"
+    tell_path
+}
+
+# Says whether the command bidi-edit is found, and whether it is the one that was installed.
+# shellcheck disable=SC2016 # for the user's shell
+tell_path() {
+    places=$(CDPATH='' cd -- "$prefix/bin" && pwd)
+    case :$PATH: in
+    *":$places:"* | *":$prefix/bin:"*)
+        found=$(command -v bidi-edit) || found=''
+        # shellcheck disable=SC3013 # dash, bash and busybox have it
+        if [ "$found" -ef "$prefix/bin/bidi-edit" ]; then
+            echo 'bidi-edit FILE starts it'
+        else
+            echo "its folder is on PATH, but another bidi-edit comes first: $(shown "$found")"
+        fi
+        ;;
+    *) printf 'its folder is not on PATH: start it by its path, or add a line to ~/.profile: PATH=$PATH:%s\n' "$(shown "$places")" ;;
+    esac
 }
 
 # ---- removal

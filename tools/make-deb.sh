@@ -130,6 +130,7 @@ make_package() {
     rm "$package/usr/share/man/man1/bidi-edit.1"
     mv "$package/usr/share/man/man1/bidi_edit.1.gz" "$package/usr/share/man/man1/bidi-edit.1.gz"
     ln -s bidi-edit.1.gz "$package/usr/share/man/man1/bidi_edit.1.gz"
+    mv "$package/usr/share/zsh/site-functions" "$package/usr/share/zsh/vendor-completions"
     cp "$top/tools/package/lintian-overrides" "$package/usr/share/lintian/overrides/bidi-edit"
     make_documents
     make_control

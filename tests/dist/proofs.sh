@@ -36,9 +36,10 @@ check_measuring() { # NAME
 
 check_installing() { # NAME
     (cd "$tree" && sh tools/install.sh "$folder/installed") >"$folder/said" 2>&1
-    same "$1, status" "$? $(cat "$folder/said")" "0 $folder/installed/bin/bidi-edit"
+    same "$1, status" "$? $(head -n 1 "$folder/said")" "0 $folder/installed/bin/bidi-edit"
     same "$1, it runs" "$("$folder/installed/bin/bidi-edit" note | paste -s -d '|')" 'host note|bidi_edit runs'
-    same "$1, the toolchain" "$(cat "$folder/installed/lib/bidi_edit/kit")" 'a toolchain'
+    same "$1, what it notes" "$(sed 's/ [0-9a-f]\{64\}$/ SUM/' "$folder/installed/lib/bidi_edit/kit" | paste -s -d '|')" \
+        "a toolchain|version $base_version|programs of dist/|sources of dist/ SUM"
     echo '// more' >>"$tree/crates/low/src/main.rt"
     (cd "$tree" && sh tools/install.sh "$folder/elsewhere") >"$folder/said" 2>&1
     same "$1, changed sources" "$? $(grep -c 'the sources are not those that dist/ was built from' "$folder/said") $(ls "$folder/elsewhere" 2>/dev/null)" '1 1 '
@@ -59,7 +60,8 @@ check_installing_built() { # NAME
     for note in '' 'a noted toolchain'; do
         [ -z "$note" ] || echo "$note" >"$tree/crates/bidi_edit/out/kit"
         (cd "$tree" && PATH=$folder/none:$PATH sh tools/install.sh "$folder/built") >"$folder/said" 2>&1
-        same "$1, built here${note:+, $note}" "$? $(cat "$folder/said") $(cat "$folder/built/lib/bidi_edit/kit" 2>/dev/null)" "0 $folder/built/bin/bidi-edit $note"
+        same "$1, built here${note:+, $note}" "$? $(head -n 1 "$folder/said") $(sed 's/ [0-9a-f]\{64\}$/ SUM/' "$folder/built/lib/bidi_edit/kit" | paste -s -d '|')" \
+            "0 $folder/built/bin/bidi-edit ${note:-unknown}|version $base_version|programs built here, the same as in dist/|sources of dist/ SUM"
     done
 }
 

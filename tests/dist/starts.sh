@@ -113,6 +113,27 @@ share/bidi_edit/DerivedBidiClass.txt share/bidi_edit/UnicodeData.txt"
     same "$1, nothing stays of that" "$(ls "$tree/out/start/bin")" bidi-edit
 }
 
+# Prints what --version says, in one line.
+version_told() {
+    PATH="$folder/bin:$PATH" "$tree/bidi-edit" --version 2>&1 </dev/null | sed 's/ [0-9a-f]\{64\}$/ SUM/' | paste -s -d '|'
+}
+
+# What --version says beside the host's words: the version of the sources, and where the programs are from.
+check_version() { # NAME
+    same "$1, of dist/" "$(version_told)" "host $base_version|bidi_edit runs|programs of dist/|sources of dist/ SUM"
+    build_all
+    # where the host finds its program when it is built in host/out
+    mkdir -p "$tree/host/lib" && cp -R "$tree/out/start/lib/bidi_edit" "$tree/host/lib/"
+    same "$1, built here" "$(version_told)" "host $base_version|bidi_edit runs|programs built here, the same as in dist/|sources of dist/ SUM"
+    echo 'echo other' >>"$tree/crates/bidi_edit/out/bidi_edit"
+    same "$1, another" "$(version_told)" "host $base_version|bidi_edit runs|programs built here|sources of dist/ SUM"
+    printf '0123456789abcdef0123 1800000000 Somebody <somebody@example.org>\n' >"$tree/tools/package/commit"
+    sed -i '0,/^## /s/^## .*/## 7.8.9, unreleased/' "$tree/CHANGELOG.md"
+    same "$1, in a tarball" "$(version_told | cut -d '|' -f 1)" 'host 7.8.9~git20270115.01234567'
+    sed -i '0,/^## /s/^## .*/## 7.8.9, 2027-01-15 (tag v7.8.9)/' "$tree/CHANGELOG.md"
+    same "$1, of a release" "$(version_told | cut -d '|' -f 1)" 'host 7.8.9'
+}
+
 # A changed source is told before the first start and after it, and one that is changed back is no fault.
 check_sources() { # NAME
     for file in low/src/main.rt bidi_print/specs/Lib.antt $player/proofs/deep/Proof.antt; do
@@ -137,6 +158,35 @@ check_sources() { # NAME
     cp -p "$folder/first/crates/low/src/main.rt" "$tree/crates/low/src/main.rt"
     start
     runs "$1, changed back"
+}
+
+# What a start says that has to prove and build, where there is no toolchain: what to do next.
+check_no_toolchain() { # NAME
+    make_path
+    end=', and the toolchain (rt), which would prove and build the editor, is not installed'
+    echo '// more' >>"$tree/crates/low/src/main.rt"
+    start PATH="$folder/path"
+    same "$1, changed sources" "$status $(cat "$folder/said")" \
+        "1 bidi-edit: the sources are not those that dist/ was built from$end: git status shows what was changed in crates/, and README.md names the toolchain"
+    cp "$folder/first/crates/low/src/main.rt" "$tree/crates/low/src/main.rt"
+    change_byte SOURCES
+    start PATH="$folder/path"
+    same "$1, changed bytes" "$status $(cat "$folder/said")" \
+        "1 bidi-edit: dist/SOURCES does not match its checksum in dist/SHA256SUMS$end: git checkout dist brings back what was committed"
+    rm -r "$tree/dist"
+    start PATH="$folder/path"
+    same "$1, no dist/" "$status $(cat "$folder/said")" "1 bidi-edit: dist/ is missing$end: git checkout dist brings it back"
+    same "$1, nothing is left" "$([ -e "$tree/out" ] && ls "$tree/out")" ''
+}
+
+# Without a tool of the start, it says which one.
+check_tools() { # NAME
+    for lacking in sha256sum tar; do
+        make_path "$lacking"
+        start PATH="$folder/path"
+        same "$1, no $lacking" "$status $(cat "$folder/said")" \
+            "1 bidi-edit: there is no $lacking, which a start from dist/ needs: install it (on Debian, apt install coreutils mawk findutils tar gzip)"
+    done
 }
 
 # Changes the second last byte of a file in dist/.
@@ -176,6 +226,6 @@ check_machine() { # NAME
     for name in $names; do rm -r "$tree/crates/$name/out"; done
     rm -rf "$tree/out"
     start
-    refuses "$1, without a loader" 'the programs in dist/ do not run on this machine'
+    refuses "$1, without a loader" "the programs in dist/ do not run on this machine: they need glibc 2.34 or later, and this is $(getconf GNU_LIBC_VERSION)"
     tar -xzf "$folder/first/dist/bidi-edit-x86_64-linux.tar.gz" -C "$TOLD/built" bidi_edit
 }

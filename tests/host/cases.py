@@ -236,6 +236,33 @@ def printing(check, tree):
         check.holds('printing: a pipe that nobody reads', told.wait(5) in (0, 1), told.returncode)
     with open('/dev/full', 'wb') as full:
         check.same('printing: a full disk', subprocess.run([tree.host, '--help'], stdout=full, stderr=subprocess.DEVNULL, env=environment).returncode, 1)
+    for words in ('--help', '--version', '--recover', '--print /dev/null'):
+        told = subprocess.run(['sh', '-c', f"'{tree.host}' {words} >&-"], stderr=subprocess.PIPE, env=environment)
+        check.holds(f'printing: {words}, a closed output', told.returncode == 1 and told.stderr, told)
+
+
+def printed_rows(check, tree):
+    """The columns of printed rows, printing standard input, and a pipe whose writer is not to see that it is looked at."""
+    environment = {**os.environ, **tree.variables()}
+    environment.pop('COLUMNS', None)
+    for more, columns in (({}, b'80'), ({'COLUMNS': '66'}, b'66'), ({'COLUMNS': '0'}, b'80'), ({'COLUMNS': '9999'}, b'500'), ({'COLUMNS': 'x'}, b'80')):
+        told = subprocess.run([tree.host, '--print', '/dev/null'], stdout=subprocess.PIPE, start_new_session=True, env={**environment, **more})
+        check.holds(f'columns: {more}', b'<--cols> <%s>' % columns in told.stdout, told)
+    for words in (f"'{tree.host}' --print /dev/null", f"'{tree.host}' --print /dev/null | cat", f"COLUMNS=66 '{tree.host}' --print /dev/null | cat"):
+        run = Run(['sh', '-c', words], columns=91, **tree.variables())
+        run.pump(5)
+        run.drain()
+        check.holds(f'columns on a terminal: {words}', b'<--cols> <91>' in run.output, run.output)
+        run.close()
+    told = subprocess.run([tree.host, '--print', '-'], stdin=subprocess.DEVNULL, stdout=subprocess.PIPE, env=environment)
+    check.holds('standard input', told.returncode == 0 and b'</dev/stdin>' in told.stdout, told)
+    os.mkfifo(tree.file('pipe'))
+    with subprocess.Popen(['sh', '-c', 'echo text >"$0"', tree.file('pipe')]) as writer:
+        time.sleep(0.2)
+        told = subprocess.run([tree.host, '--print', tree.file('pipe')], stdout=subprocess.PIPE, env=environment)
+        check.holds('a pipe', told.returncode == 0 and writer.poll() is None, told)
+        with open(tree.file('pipe'), 'rb') as pipe:
+            check.same('what is in the pipe', pipe.read(), b'text\n')
 
 
 def deaf_programs(check, tree):
@@ -285,5 +312,5 @@ def missing_programs(check, tree):
     os.chmod(program, 0o755)
 
 
-CASES = [edits, sizes, resizes, waiting_sizes, idles, large_pastes, standard_files, erases, refusals, starts_that_stall, without_terminal, printing,
+CASES = [edits, sizes, resizes, waiting_sizes, idles, large_pastes, standard_files, erases, refusals, starts_that_stall, without_terminal, printing, printed_rows,
        deaf_programs, limits, missing_programs]

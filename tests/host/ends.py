@@ -29,7 +29,7 @@ def restored(output):
              (b'\x1b[?1047h', TAIL, 'screen after a stop')]
     if b'\x1b[?2004h' in output:
         pairs += [(b'\x1b[?2004h', b'\x1b[?2004l', 'pastes'), (b'\x1b[?1002h', b'\x1b[?1002l', 'reports of the mouse'),
-                  (b'\x1b[?1006h', b'\x1b[?1006l', 'their form')]
+                  (b'\x1b[?1006h', b'\x1b[?1006l', 'their form'), (b'\x1b[>4;1m', b'\x1b[>4m', 'modified keys')]
     return wrong + [name for on, off, name in pairs if output.rfind(off) < output.rfind(on)]
 
 

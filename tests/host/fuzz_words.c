@@ -1,6 +1,6 @@
 /* A harness of libFuzzer for command lines and names. Words are parted by NUL. What is read of them must keep its bounds, each name in
  * a message must be what a shell reads back as the name, and no message may have a byte that a terminal obeys. To build: clang -g
- * -fsanitize=fuzzer,address,undefined -D_GNU_SOURCE tests/host/fuzz_words.c host/words.c */
+ * -fsanitize=fuzzer,address,undefined -D_GNU_SOURCE tests/host/fuzz_words.c host/words.c host/util.c */
 #include "../../host/say.c"
 #include "../../host/words.h"
 

@@ -31,7 +31,7 @@ def worker(host, names):
     become_reaper()
     for number in (signal.SIGPIPE, signal.SIGXFSZ, signal.SIGINT):  # python ignores or handles them until exec
         signal.signal(number, signal.SIG_DFL)
-    # not in a folder for temporary files, whose sessions would be there
+    # not in memory, where FILE would get no session
     folder = tempfile.mkdtemp(prefix='keeping.', dir='/var/lib' if os.geteuid() == 0 else os.path.expanduser('~'))
     report = Report()
     try:

@@ -1,5 +1,6 @@
 """The scene of the cases of keeping.py: a folder and a home for each, starts of the host in terminals, and what is typed and asked."""
 import glob, os, signal, subprocess, time
+import about
 from checks import Fault
 from terminals import Run
 
@@ -119,8 +120,19 @@ class Place:
             return file.read()
 
     def put_part(self, name, text):
+        """Changes a file of the session, as if the editor had written it."""
+        about.put_part(self.sessions()[0], name, text)
+
+    def spoil(self, name, text):
+        """Changes a file of the session, as a failing disk may."""
         with open(f'{self.sessions()[0]}/{name}', 'wb') as file:
             file.write(text)
+
+    def fact(self, key):
+        return about.facts(self.sessions()[0]).get(key)
+
+    def put_fact(self, key, words):
+        about.put_fact(self.sessions()[0], key, words)
 
     def leave(self, name='a.txt', keys=b'abc'):
         """Leaves a session of a file with keys that are not saved, by a hangup."""

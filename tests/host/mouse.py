@@ -184,6 +184,16 @@ def suspended_pastes(check, tree):
     run.type(b'two\x1b[201~')
     check.holds('a stop in a paste: behind its end', wait_until(run, lambda: state(run.job) == 'T') and run.is_restored())
     take_up(run)
+    run.type(b'\x1b[200~')
+    run.rest(0.1)
+    os.kill(run.job, signal.SIGTSTP)
+    for _ in range(16):
+        run.type(b'line')
+        run.rest(0.2)
+    check.holds('a stop in a paste that goes on: not yet', state(run.job) != 'T')
+    run.type(b'\x1b[201~')
+    check.holds('a stop in a paste that goes on: behind its end', wait_until(run, lambda: state(run.job) == 'T') and run.is_restored())
+    take_up(run)
     run.type(b'\x1b[200~three')
     run.rest(0.1)
     os.kill(run.job, signal.SIGTSTP)
@@ -192,7 +202,7 @@ def suspended_pastes(check, tree):
     run.type(QUIT)
     finish(check, run, 'a stop in a paste', 0)
     check.same('a stop in a paste: all of it came', b''.join(body for letter, body in frames(run) if letter == 'b'),
-               b'\x1b[200~onetwo\x1b[201~\x1b[200~three' + QUIT)
+               b'\x1b[200~onetwo\x1b[201~\x1b[200~' + b'line' * 16 + b'\x1b[201~\x1b[200~three' + QUIT)
 
 
 def ignored_stops(check, tree):

@@ -154,8 +154,8 @@ def written_before_it_is_opened(check, place):
 @needs("strace")
 def written_while_it_is_synced(check, place):
     """Another program writes FILE once the save has filled it, while the disk takes it: the next save tells of it."""
-    # the first two are of the backup and its folder
-    editor = in_place(place, under=slow("fsync", 3, which=":when=3"))
+    # the first three are of the backup, of the record of steps, and of their folder
+    editor = in_place(place, under=slow("fsync", 3, which=":when=4"))
     editor.start_save("new\n")
     wait_until_late(editor.process)
     write(place.note, "theirs\n")
@@ -222,8 +222,8 @@ def locked_by_another(check, place):
 @needs("strace")
 def failing_syncs(check, place):
     """A save whose sync fails is told as failed, by any error; the next one, in which it fails again, does not take FILE for another's."""
-    # of the new file and its folder; of the backup, its folder and FILE
-    for words, syncs in ((), 2), (("--backup", f"{place.folder}/own"), 3):
+    # of the new file and its folder; of the backup, of the record of steps, of their folder and of FILE
+    for words, syncs in ((), 2), (("--backup", f"{place.folder}/own"), 4):
         os.makedirs(f"{place.folder}/own", exist_ok=True)
         before = sorted(os.listdir(place.folder))
         for at in range(1, syncs + 1):
@@ -233,9 +233,8 @@ def failing_syncs(check, place):
                 editor = open_file(place.note, *words, under=under)
                 what = f"with {error} at sync {at} of {syncs}"
                 check.same(f"the save {what}", editor.save("new\n"), cause)
-                if at < 3:
-                    check.same(f"FILE {what}", read(place.note), "old\n")
-                    check.same(f"what is there {what}", sorted({*os.listdir(place.folder)} - {"note"}), [name for name in before if name != "note"])
+                check.same(f"FILE {what}", read(place.note), "old\n")
+                check.same(f"what is there {what}", sorted({*os.listdir(place.folder)} - {"note"}), [name for name in before if name != "note"])
                 check.same(f"the next save {what}", editor.save("newer\n"), cause)
                 editor.end()
 

@@ -6,6 +6,7 @@ from terminals import Run
 
 # Seconds after which a shell and the host have written all that they write after keys or a signal, also on a busy machine.
 ALL_WRITTEN = 0.6
+PASTES, NO_PASTES = b'\x1b[?2004h', b'\x1b[?2004l'
 SHELLS = (['bash', '--norc', '--noprofile', '--noediting', '-i'], ['bash', '--norc', '--noprofile', '-i'], ['dash', '-i'])
 
 
@@ -46,22 +47,32 @@ def in_shell(check, tree, words):
 
 
 def killed_in_shell(check, tree, words):
-    """The checks of a host that is killed in the shell that these words start."""
+    """The checks of a host that is killed in the shell that these words start: a line with the command that recovers is said, and pastes are
+    marked if the shell has asked for that since."""
     name = ' '.join(words)
     run = Run(words, PS1='P> ', **tree.variables())
     run.pump(5, b'P> ')
     run.rest(0.2)
     before = termios.tcgetattr(run.slave)
-    run.type(f"'{tree.host}' '{tree.new_file('job')}'\n".encode())
+    is_marked = run.output.rfind(PASTES) > run.output.rfind(NO_PASTES)
+    note = tree.new_file('job')
+    run.type(f"'{tree.host}' '{note}'\n".encode())
     run.pump(5, b'hello')
+    run.type(b'abc')
+    run.pump(5, b'<abc>')
+    run.rest(0.2)
     run.output = b''
     os.kill(run.child('bidi-edit'), signal.SIGKILL)
-    check.holds(f'{name}: killed', run.pump(5, TAIL), run.output)
+    check.holds(f'{name}: killed', run.pump(5, f'bidi-edit was killed: bidi-edit --recover {note} restores unsaved text\r\n'.encode()), run.output)
     run.rest(0.5)
+    shown = run.output
+    check.holds(f'{name}: the line is on the screen as before', b'was killed' in shown.rpartition(TAIL)[2], shown)
+    check.same(f'{name}: pastes', shown.rfind(PASTES) > shown.rfind(NO_PASTES), is_marked)
     check.same(f'{name}: settings as at the prompt before', termios.tcgetattr(run.slave), before)
     run.type(b'echo a$((1+1))b\n')
     check.holds(f'{name}: the shell goes on', run.pump(5, b'a2b'), run.output)
     run.close()
+    return shown.rfind(b'P> ') > shown.rfind(TAIL)
 
 
 def shells(check, tree):
@@ -69,7 +80,8 @@ def shells(check, tree):
     for words in SHELLS:
         if shutil.which(words[0]):
             in_shell(check, tree, words)
-            killed_in_shell(check, tree, words)
+            found = [killed_in_shell(check, tree, words) for _ in range(5)]
+            check.holds(f"{' '.join(words)}: killed, the prompt mostly comes behind the restored screen", sum(found) >= 3, found)
 
 
 def ends_in_paste(tree, words, number):

@@ -10,6 +10,8 @@ make_sources() {
     commit_time=$(git -C "$top" log -1 --format='%ct +0200')
     mkdir "$source"
     (cd "$top" && git ls-files -z | xargs -0 tar -cf - 2>/dev/null) | tar -xf - -C "$source"
+    # after a change in host/, dist/ is made anew here, as it has to be before the change lands
+    [ "$(host_digest)" = "$(noted host)" ] || sh "$source/tools/make-dist.sh" >"$folder/said" 2>&1 || cat "$folder/said"
     (
         export GIT_AUTHOR_NAME=Somebody GIT_AUTHOR_EMAIL=somebody@example.org GIT_COMMITTER_NAME=Somebody GIT_COMMITTER_EMAIL=somebody@example.org
         export GIT_AUTHOR_DATE="$commit_time" GIT_COMMITTER_DATE="$commit_time" GIT_CONFIG_GLOBAL=/dev/null
@@ -51,6 +53,9 @@ check_twice() { # NAME
     (umask 077 && make_files "$folder/another folder" "$folder/second" TZ=Asia/Jerusalem LC_ALL=C && exit "$status")
     status=$?
     same_bytes "$1, a clone in another folder" "$folder/second"
+    git clone -q --config core.autocrlf=true "$source" "$folder/with CR"
+    make_files "$folder/with CR" "$folder/lines"
+    same_bytes "$1, a clone with core.autocrlf" "$folder/lines"
     make_files "$folder/tarball" "$folder/third" CC=no-compiler
     same_bytes "$1, a tarball, and no compiler" "$folder/third"
     if has_tool "$1, another day" faketime; then

@@ -12,6 +12,7 @@ check_manual() { # NAME
     manual=$folder/tree/bidi-edit-$version/share/man/man1/bidi_edit.1
     ! has_tool "$1, man" man || same "$1, man" "$(man --warnings -l "$manual" 2>&1 >/dev/null)" ''
     ! has_tool "$1, mandoc" mandoc || same "$1, mandoc" "$(mandoc -T lint "$manual" 2>&1)" ''
+    same "$1, its version in the sources" "$(sed -n '1s/.*"bidi_edit \([^"]*\)".*/\1/p' "$top/docs/bidi_edit.1")" "${version%"$day.$digest"}"
     same "$1, its version" "$(sed -n '1s/.*"bidi_edit \([^"]*\)".*/\1/p' "$manual")" "$version"
     same "$1, its day" "$(sed -n '1s/^.TH BIDI_EDIT 1 \([^ ]*\) .*/\1/p' "$manual")" "$(date -u -d "$day" +%Y-%m-%d)"
     for word in Hebrew Arabic bidirectional; do
@@ -23,8 +24,8 @@ check_manual() { # NAME
 # Both have the same files, of the same bytes, but for what Debian compresses, links and adds.
 check_files() { # NAME
     tree=$folder/tree/bidi-edit-$version
-    same "$1, in both" "$(cd "$tree" && find . -type f ! -path './share/man/*' -exec sha256sum {} + | sort -k 2)" \
-        "$(cd "$folder/unpacked/usr" && find . -type f ! -path './share/man/*' ! -path '*/lintian/*' ! -name copyright ! -name 'changelog*' -exec sha256sum {} + | sort -k 2)"
+    same "$1, in both" "$(cd "$tree" && find . -type f ! -path './share/man/*' ! -path './share/zsh/*' -exec sha256sum {} + | sort -k 2)" \
+        "$(cd "$folder/unpacked/usr" && find . -type f ! -path './share/man/*' ! -path './share/zsh/*' ! -path '*/lintian/*' ! -name copyright ! -name 'changelog*' -exec sha256sum {} + | sort -k 2)"
     same "$1, the package's documents" "$(cd "$folder/unpacked/usr/share/doc/bidi-edit" && echo *)" 'NOTICE bidi-edit.spdx.json changelog.Debian.gz changelog.gz copyright'
     same "$1, the changes" "$(gzip -dc "$folder/unpacked/usr/share/doc/bidi-edit/changelog.gz")" "$(cat "$top/CHANGELOG.md")"
     same "$1, the owners" "$(dpkg-deb -c "$deb" | awk '{ print $2 }' | sort -u)" root/root

@@ -108,9 +108,13 @@ check_removal() {
     installs --uninstall "$prefix"
     same 'packages, taken away: status' "$status" 0
     same 'packages, taken away: all is as before' "$(tree_of "$prefix")" "$before"
-    installs --uninstall "$prefix"
+    installs "$prefix" --uninstall
     same 'packages, taken away twice: status' "$status" 1
     same 'packages, taken away twice: all is as before' "$(tree_of "$prefix")" "$before"
+    installs "$prefix"
+    installs "$prefix" --uninstall
+    same 'packages, taken away, the option last: status' "$status" 0
+    same 'packages, taken away, the option last: all is as before' "$(tree_of "$prefix")" "$before"
     installs "$prefix"
     as_user sh -c 'echo other >"$1"; echo other >"$2"' sh "$prefix/bin/bidi-edit" "$prefix/lib/bidi_edit/mine"
     installs --uninstall "$prefix"
@@ -142,6 +146,23 @@ check_newer_version() {
     rm -rf "$prefix"
 }
 
+# An installation says how it is started: by its name or by its path.
+check_path() {
+    installs "$prefix"
+    same 'packages, not on PATH' "$(sed 's/:.*PATH=/: PATH=/' "$folder/said" | paste -s -d '|')" \
+        "$prefix/bin/bidi-edit|its folder is not on PATH: PATH=\$PATH:$prefix/bin"
+    as_user env PATH="$prefix/bin:$PATH" sh "$source/tools/install.sh" "$prefix/" >"$folder/said" 2>&1
+    same 'packages, on PATH' "$(tail -n 1 "$folder/said")" 'bidi-edit FILE starts it'
+    as_user mkdir "$folder/private/other"
+    as_user cp "$prefix/bin/bidi-edit" "$folder/private/other/bidi-edit"
+    as_user env PATH="$folder/private/other:$prefix/bin:$PATH" sh "$source/tools/install.sh" "$prefix" >"$folder/said" 2>&1
+    same 'packages, behind another on PATH' "$(tail -n 1 "$folder/said")" "its folder is on PATH, but another bidi-edit comes first: $folder/private/other/bidi-edit"
+    as_user rm -r "$folder/private/other"
+    as_user env -u HOME sh "$source/tools/install.sh" >"$folder/said" 2>&1
+    same 'packages, neither HOME nor PREFIX' "$? $(cat "$folder/said")" '1 install.sh: HOME is not set: name a PREFIX'
+    rm -rf "$prefix"
+}
+
 # make-deb.sh takes programs that are built here only if they are proved.
 check_deb() {
     command -v dpkg-deb >/dev/null || {
@@ -165,6 +186,7 @@ check_packages() {
     check_starts_meanwhile
     check_removal
     check_newer_version
+    check_path
     check_deb
     rm -rf "$source"
 }

@@ -22,6 +22,18 @@ is_changed() {
     [ -e "$top/.git" ] && ! git -C "$top" diff --quiet HEAD -- 2>/dev/null
 }
 
+# Prints what --version says of the programs: whether they are those of dist/, and the digest of the sources of dist/. For dist.sh's
+# words. START is the folder that dist/ is unpacked to, or empty.
+tell_programs() { # START
+    told='of dist/'
+    if [ -z "$1" ]; then
+        told='built here'
+        [ "$(sha256sum <"$top/crates/bidi_edit/out/bidi_edit" | cut -c 1-64)" != "$(noted program bidi_edit 2>/dev/null)" ] || told='built here, the same as in dist/'
+    fi
+    echo "programs $told"
+    [ ! -f "$top/dist/SOURCES" ] || echo "sources of dist/ $(noted sources)"
+}
+
 # Sets `version`, with what read_commit sets. The first heading of CHANGELOG.md is `## VERSION, DATE (tag NAME)` in the commit that
 # releases VERSION. In all others it is `## VERSION, unreleased`: then the version is VERSION~git with the commit's day and digest, and
 # with the word `changed` if a file differs from the commit. It is before VERSION in the order of packages.

@@ -54,15 +54,28 @@ put_manual() {
     echo '.so man1/bidi_edit.1' >"$tree/share/man/man1/bidi-edit.1"
 }
 
-# Puts the toolchain's version there, as it was noted when the programs were built.
-put_kit() {
+# Prints the toolchain's version, as it was noted when the programs were built.
+kit_of() {
+    if [ -z "$start" ] && rt version 2>/dev/null; then return; fi
     kit=$(path_of bidi_edit)
-    kit=${kit%/*}/kit
-    if [ -z "$start" ] && told=$(rt version 2>/dev/null); then
-        printf '%s\n' "$told" >"$tree/lib/bidi_edit/kit"
-    elif [ -f "$kit" ]; then
-        put 644 "$kit" lib/bidi_edit/kit
-    fi
+    cat "${kit%/*}/kit" 2>/dev/null || echo unknown
+}
+
+# Puts there what --version says: in the first line the toolchain, then the editor's version and where the programs are from.
+put_kit() {
+    { kit_of && echo "version $version" && tell_programs "$start"; } >"$tree/lib/bidi_edit/kit"
+    chmod 644 "$tree/lib/bidi_edit/kit"
+}
+
+# Puts the files there by which shells complete options, and the entry for desktops.
+put_helps() {
+    for pair in bash:bash-completion/completions/bidi-edit zsh:zsh/site-functions/_bidi-edit fish:fish/vendor_completions.d/bidi-edit.fish; do
+        file=share/${pair#*:}
+        mkdir -p -- "$tree/${file%/*}"
+        sh "$top/tools/package/completions.sh" "${pair%%:*}" "$tree/bin/bidi-edit" >"$tree/$file"
+        chmod 644 "$tree/$file"
+    done
+    put 644 "$top/tools/package/bidi-edit.desktop" share/applications/bidi-edit.desktop
 }
 
 # Fills a folder.
@@ -74,6 +87,7 @@ fill_tree() { # FOLDER
     for table in DerivedBidiClass BidiBrackets BidiMirroring ArabicShaping UnicodeData; do put 644 "$top/data/$table.txt" "share/bidi_edit/$table.txt"; done
     put_manual
     put_kit
+    put_helps
     put 644 "$top/NOTICE" share/doc/bidi-edit/NOTICE
     sh "$top/tools/make-sbom.sh" "$tree" >"$tree/share/doc/bidi-edit/bidi-edit.spdx.json"
 }
