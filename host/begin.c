@@ -13,10 +13,10 @@
 #include "util.h"
 
 /* Seconds: that a message stays before the screen hides it; after which a notice that keys have hidden is shown again. */
-enum { PAUSE = 1, AGAIN = 5 };
+enum { PAUSE = 1, HIDDEN = 5 };
 
 /* Bits of a mode: by which others than the owner read; all of theirs. */
-enum { READ_BY_OTHERS = 044, FOR_OTHERS = 077 };
+enum { READ_BY_OTHERS = 044 };
 
 /* ---- FILE */
 
@@ -299,7 +299,7 @@ static void tell_trouble(struct edit *edit) {
     if (is_new) {
         show_title(edit->titles[title_note_of(facts, trouble)]);
         if (trouble != NOTICE_NONE) ring();
-    } else if (trouble == NOTICE_NONE || !edit->is_typed_since || edit->seconds_since < AGAIN) {
+    } else if (trouble == NOTICE_NONE || !edit->is_typed_since || edit->seconds_since < HIDDEN) {
         return;
     }
     give_notice(trouble != NOTICE_NONE ? trouble : NOTICE_KEPT_AGAIN);
@@ -373,8 +373,6 @@ int run_session(struct edit *edit) {
         program->rows = edit->begin.rows;
         program->columns = edit->begin.cols;
     }
-    /* FILE is gone, so a save creates it, with no more permissions than it had */
-    if (edit->lost_mode >= 0) umask(umask(0) | (program->mask = ~(unsigned)edit->lost_mode & FOR_OTHERS));
     enum notice notice = first_notice(edit);
     if (notice != NOTICE_NONE) give_notice(notice);
     else program->hint = new_hint(&edit->sessions);

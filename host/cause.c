@@ -26,6 +26,7 @@ static const char *const sentences[CAUSES] = {
     [CAUSE_BROKEN_LINK] = "% is a broken link: ls -l shows where it points",
     [CAUSE_CIRCLE_OF_LINKS] = "% is a link in a circle of links: ls -l shows where it points",
     [CAUSE_LINK_NOT_UTF8] = "% is a link to a name that is not UTF-8: rename that file with mv",
+    [CAUSE_NAME_TOO_LONG] = "the name % is too long for its disk: choose a shorter one",
     [CAUSE_NO_FOLDER] = "the folder @ does not exist: mkdir -p @ creates it",
     [CAUSE_FILE_AS_FOLDER] = "@ is not a folder: name a file in a folder",
     [CAUSE_FOLDER_BELOW_FILE] = "the folder @ cannot exist, since its path leads through a file: name a file in a folder",

@@ -26,6 +26,7 @@ enum cause {
     CAUSE_BROKEN_LINK,
     CAUSE_CIRCLE_OF_LINKS,
     CAUSE_LINK_NOT_UTF8,
+    CAUSE_NAME_TOO_LONG,
     /* Something is wrong with FILE's folder. */
     CAUSE_NO_FOLDER,
     CAUSE_FILE_AS_FOLDER,

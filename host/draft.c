@@ -29,14 +29,6 @@ enum cause lock_for_save(int file) {
 
 /* ---- names: these functions return 0 or an errno */
 
-/* A name for a draft beside FILE, as file.h describes it. */
-static bool make_draft_name(const struct file *file, char name[NAME_MAX + 1]) {
-    char random[DRAFT_LETTERS + 1];
-    if (!make_letters(random, DRAFT_LETTERS, DRAFT_ALPHABET)) return false;
-    snprintf(name, NAME_MAX + 1, "%.*s.%s%s", (int)draft_stem(file->name), file->name, random, DRAFT_END);
-    return true;
-}
-
 static int rename_by(int folder, const char *from, const char *to, unsigned flags) {
     return syscall(SYS_renameat2, folder, from, folder, to, flags) == 0 ? 0 : errno;
 }
@@ -66,11 +58,15 @@ static int name_draft(struct draft *draft, const char *name) {
     return error;
 }
 
-/* Gives a draft without a name a random one. */
-static int name_by_chance(struct draft *draft, const struct file *file) {
-    char name[NAME_MAX + 1];
+/* Names or creates a draft beside FILE by a random name, as file.h describes it. */
+static int name_by_chance(struct draft *draft, const struct file *file, int (*name_it)(struct draft *, const char *)) {
+    char name[NAME_MAX + 1], random[DRAFT_LETTERS + 1];
     int error = EEXIST;
-    for (int tries = 0; error == EEXIST && tries < TRIES; tries++) error = make_draft_name(file, name) ? name_draft(draft, name) : EIO;
+    for (int tries = 0; error == EEXIST && tries < TRIES; tries++) {
+        if (!make_letters(random, DRAFT_LETTERS, DRAFT_ALPHABET)) return EIO;
+        snprintf(name, sizeof name, "%.*s.%s%s", (int)draft_stem(file->name), file->name, random, DRAFT_END);
+        error = name_it(draft, name);
+    }
     return error;
 }
 
@@ -82,8 +78,8 @@ static int name_backup(struct save *save) {
         int length = snprintf(name, sizeof name, number ? "%s" DRAFT_END "%d" : "%s" DRAFT_END, save->file->name, number);
         error = length > NAME_MAX ? ENAMETOOLONG : name_draft(&save->draft, name);
     }
-    if ((error == EEXIST || error == ENAMETOOLONG) && save->draft.name[0]) return 0;
-    return error == EEXIST || error == ENAMETOOLONG ? name_by_chance(&save->draft, save->file) : error;
+    if (error != EEXIST && error != ENAMETOOLONG) return error;
+    return save->draft.name[0] ? 0 : name_by_chance(&save->draft, save->file, name_draft);
 }
 
 /* Syncs FILE's folder; one that the user cannot read is synced with its disk. */
@@ -95,31 +91,28 @@ static int sync_folder(const struct save *save) {
 /* ---- the draft */
 
 /* Creates a draft of this name. O_EXCL and O_NOFOLLOW: nothing that another program put there is written. */
-static int open_at(struct draft *draft, const char *name, mode_t mode) {
-    draft->file = openat(draft->folder, name, O_RDWR | O_CREAT | O_EXCL | O_NOFOLLOW | O_CLOEXEC, mode);
+static int open_at(struct draft *draft, const char *name) {
+    draft->file = openat(draft->folder, name, O_RDWR | O_CREAT | O_EXCL | O_NOFOLLOW | O_CLOEXEC, draft->mode);
     if (draft->file < 0) return errno;
     snprintf(draft->name, sizeof draft->name, "%s", name);
     return 0;
 }
 
 /* Creates a draft beside FILE: without a name if the system can, else under a random name. */
-static int open_beside(struct draft *draft, const struct file *file, mode_t mode) {
-    char name[NAME_MAX + 1];
-    int error = EEXIST;
-    draft->file = openat(draft->folder, ".", O_TMPFILE | O_RDWR | O_CLOEXEC, mode);
+static int open_beside(struct draft *draft, const struct file *file) {
+    draft->file = openat(draft->folder, ".", O_TMPFILE | O_RDWR | O_CLOEXEC, draft->mode);
     /* it will get its name through /proc, which may have been unmounted */
     if (draft->file >= 0 && faccessat(AT_FDCWD, link_of(draft->file).path, F_OK, 0) == 0) return 0;
     close_one(&draft->file);
-    for (int tries = 0; error == EEXIST && tries < TRIES; tries++) error = make_draft_name(file, name) ? open_at(draft, name, mode) : EIO;
-    return error;
+    return name_by_chance(draft, file, open_at);
 }
 
 /* Creates the draft of a backup in the session's folder, in place of what a killed save may have left. */
-static int open_own(struct save *save, mode_t mode) {
+static int open_own(struct save *save) {
     /* FILE may be torn, and need the backup that exists */
     if (faccessat(save->draft.folder, BACKUP_NAME, F_OK, AT_SYMLINK_NOFOLLOW) == 0) save->state.is_torn = true;
     if (unlinkat(save->draft.folder, BACKUP_DRAFT_NAME, 0) != 0 && errno != ENOENT) return errno;
-    return open_at(&save->draft, BACKUP_DRAFT_NAME, mode);
+    return open_at(&save->draft, BACKUP_DRAFT_NAME);
 }
 
 /* Removes an access list that a folder gave a new file. */
@@ -130,29 +123,27 @@ static int remove_list(int file) {
 /* Gives the draft the owner, group and permissions of the file that it replaces, as far as the system permits. */
 static int take_over(const struct save *save) {
     const struct stat *old = &save->state.old.found;
-    struct taken taken = {.is_plain = save->state.is_old_plain};
     struct stat own;
     int file = save->draft.file, error = remove_list(file);
     if (error != 0) return error;
     if (!save->state.old.is_there) return fchmod(file, (mode_t)save->saver->lost_mode & RIGHTS) == 0 ? 0 : errno;
     if (fstat(file, &own) != 0) return errno;
-    taken.group = own.st_gid == old->st_gid || fchown(file, (uid_t)-1, old->st_gid) == 0;
+    bool has_group = own.st_gid == old->st_gid || fchown(file, (uid_t)-1, old->st_gid) == 0;
     /* a refusal is a fault only for root */
-    if (!taken.group && geteuid() == 0) return errno;
-    taken.owner = own.st_uid == old->st_uid || fchown(file, old->st_uid, (gid_t)-1) == 0;
-    if (!taken.owner && geteuid() == 0) return errno;
-    return fchmod(file, mode_of_new(taken, old->st_mode)) == 0 ? 0 : errno;
+    if (!has_group && geteuid() == 0) return errno;
+    bool has_owner = own.st_uid == old->st_uid || fchown(file, old->st_uid, (gid_t)-1) == 0;
+    if (!has_owner && geteuid() == 0) return errno;
+    return fchmod(file, mode_of_new(old->st_mode, has_owner, has_group && save->state.is_old_plain)) == 0 ? 0 : errno;
 }
 
 enum cause write_draft(struct save *save) {
     struct draft *draft = &save->draft;
     int backup_folder = save->is_in_place ? save->saver->backup_folder : -1;
     bool is_known = save->state.old.is_there || save->saver->lost_mode >= 0;
-    /* a FILE that did not exist gets the usual mode, reduced by the user's umask */
-    mode_t mode = save->is_in_place || is_known ? 0600 : 0666;
     if (save->is_cut) return CAUSE_OUT_OF_MEMORY;
-    *draft = (struct draft){.folder = backup_folder >= 0 ? backup_folder : save->folder, .file = -1};
-    int error = backup_folder >= 0 ? open_own(save, mode) : open_beside(draft, save->file, mode);
+    /* a FILE that did not exist gets the usual mode, reduced by the user's umask */
+    *draft = (struct draft){.folder = backup_folder >= 0 ? backup_folder : save->folder, .mode = save->is_in_place || is_known ? 0600 : 0666, .file = -1};
+    int error = backup_folder >= 0 ? open_own(save) : open_beside(draft, save->file);
     if (error == 0) error = write_bytes(draft->file, save->bytes, save->length);
     if (error == 0 && !save->is_in_place && is_known) error = take_over(save);
     return cause_of(error == 0 ? sync_file(draft->file) : error);
@@ -238,7 +229,7 @@ static enum cause create(struct save *save) {
 /* Exchanges the draft with FILE, checks that what comes out is what was seen last, and removes it once the new name is on the disk. */
 static enum cause exchange(struct save *save, const struct stat *own) {
     struct draft *draft = &save->draft;
-    int error = draft->name[0] ? 0 : name_by_chance(draft, save->file);
+    int error = draft->name[0] ? 0 : name_by_chance(draft, save->file, name_draft);
     if (error != 0) return cause_of(error);
     error = rename_by(draft->folder, draft->name, save->file->name, RENAME_EXCHANGE);
     if (is_lacking(error)) return replace_by_rename(save);

@@ -14,8 +14,10 @@
 #include "session.h"
 #include "words.h"
 
-/* What a step of a start returns if the start goes on. Any other value is the exit status, and the step has reported the cause. */
-enum { GO_ON = -1 };
+/* What a step of a start returns: that the start goes on (GO_ON); that a session is recovered, and `edit` has it, with FILE or a new file
+ * beside FILE (TAKEN); that the user was asked, and FILE is opened (ASKED); or that another start was faster (AGAIN). Any other value is the
+ * exit status, and the step has reported the cause. */
+enum { GO_ON = -1, TAKEN = -2, ASKED = -3, AGAIN = -4 };
 
 struct edit {
     const struct programs *programs;
@@ -97,15 +99,11 @@ int run_session(struct edit *edit);
 
 /* ---- recover.c */
 
-/* What became of FILE's earlier sessions before FILE is opened. NONE: there is none. ASKED: the user was asked, and opens FILE. TAKEN: one
- * is recovered, and `edit` has it, with FILE or a new file beside FILE. END: the start ends. */
-enum met { MET_NONE, MET_ASKED, MET_TAKEN, MET_END };
+/* Asks about FILE's earlier sessions until it is clear which one is recovered, if any. */
+int meet_sessions(struct edit *edit);
 
-/* Asks about them until it is clear which one is recovered, if any. Sets `status` with MET_END. */
-enum met meet_sessions(struct edit *edit, int *status);
-
-/* Recovers FILE's session without asking which. Returns GO_ON, and whether one was taken. */
-int recover_session(struct edit *edit, bool *is_taken);
+/* Recovers FILE's session without asking which. */
+int recover_session(struct edit *edit);
 
 /* Stores the text of FILE's session as the new file `edit->call->other`. Returns the exit status. */
 int store_session(struct edit *edit);

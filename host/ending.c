@@ -146,17 +146,6 @@ static int open_now(const struct edit *edit, struct stat *look) {
     return file;
 }
 
-/* If FILE was gone and a recovery saved it, gives it the permissions that it had, unless it has other names. */
-static void give_mode(const struct edit *edit) {
-    struct stat look;
-    if (edit->lost_mode < 0 || !edit->was_saved) return;
-    int file = open_now(edit, &look);
-    if (file < 0) return;
-    /* if this fails, only the user can read and write the file */
-    if (look.st_nlink == 1 && fchmod(file, (mode_t)edit->lost_mode & PERMISSIONS) != 0) errno = 0;
-    close(file);
-}
-
 /* Whether FILE is there now. */
 static bool is_there_now(const struct edit *edit) {
     struct file_stamp stamp;
@@ -349,7 +338,6 @@ static void tell_signal(int status) {
 int end_session(struct edit *edit) {
     bool is_refused = tell_fault_of(edit) || !edit->run.said.is_opened;
     enum left_how how = left_how(edit->run.said.end, is_refused);
-    give_mode(edit);
     tell_aside(edit);
     if (!session_is_none(&edit->session)) {
         end_kept(edit, how);

@@ -20,9 +20,8 @@
 #define STATX_ATTR_MOUNT_ROOT 0x2000
 #endif
 
-/* MOST_LINKS: as in Linux. OPEN_TRIES: how often to open a FILE that other programs keep replacing. FRONT: bytes to look at for a byte
- * order mark or a binary header. MOST_NAMES: how many names in a folder are searched for drafts; at most MOST_DRAFTS are reported. */
-enum { MOST_LINKS = 40, OPEN_TRIES = 10, FRONT = 512, MOST_NAMES = 20000, MOST_DRAFTS = 10 };
+/* MOST_LINKS: as in Linux. FRONT: bytes to look at for a byte order mark or a binary header. MOST_NAMES: how many names in a folder are searched for drafts; at most MOST_DRAFTS are reported. */
+enum { MOST_LINKS = 40, FRONT = 512, MOST_NAMES = 20000, MOST_DRAFTS = 10 };
 
 /* Bytes. MOST: the kernel's limit for an attribute, and for the names of a file's attributes. A POSIX access list is a header and entries;
  * three entries, for owner, group and others, say no more than a mode. */
@@ -210,7 +209,8 @@ static enum cause take_step(struct file *file, const char *path) {
     if (!file->is_linked) put_path(file->folder_name, "%s", folder_part);
     close_one(&file->folder);
     file->folder = folder;
-    if (stamp_and_open(folder, file->name, &file->stamp, &file->itself) || errno != EACCES) return CAUSE_NONE;
+    if (stamp_and_open(folder, file->name, &file->stamp, &file->itself) || (errno != EACCES && errno != ENAMETOOLONG)) return CAUSE_NONE;
+    if (errno == ENAMETOOLONG) return CAUSE_NAME_TOO_LONG;
     if (file->is_linked) path_of(folder, file->folder_name);
     return CAUSE_FOLDER_CLOSED;
 }
@@ -231,19 +231,6 @@ static enum cause walk(struct file *file) {
 
 /* ---- the opening */
 
-/* Opens FILE for reading, if it is still the file that was found. Returns false if another file has taken its place. A lease on FILE
- * makes the opening wait, which is accepted for a plain file only. */
-static bool open_text(struct file *file) {
-    struct stat opened;
-    file->text = openat(file->folder, file->name, O_RDONLY | O_NONBLOCK | O_NOFOLLOW | O_CLOEXEC | O_NOCTTY);
-    if (file->text < 0 && errno == EAGAIN) file->text = open(link_of(file->itself).path, O_RDONLY | O_CLOEXEC | O_NOCTTY);
-    file->is_unreadable = file->text < 0;
-    if (file->text < 0) return errno != ENOENT && errno != ELOOP && errno != ENXIO;
-    if (fstat(file->text, &opened) == 0 && is_same_file(&opened, &file->stamp.found)) return true;
-    close_one(&file->text);
-    return false;
-}
-
 /* Sets the paths for messages and sessions, by what the open folder is called now. */
 static void name_paths(struct file *file) {
     struct stat folder, there;
@@ -253,8 +240,8 @@ static void name_paths(struct file *file) {
     snprintf(file->path, sizeof file->path, "%s/%s", before_slash(file->folder_path), file->name);
 }
 
-/* Tries once to open FILE. `is_again`: another file took its place meanwhile, so try again. */
-static enum cause try_to_open(struct file *file, bool *is_again) {
+/* Finds and opens FILE; what was opened before a refusal stays open. */
+static enum cause find_and_open(struct file *file) {
     size_t length = strlen(file->typed);
     bool is_name_of_folder = length == 0 || file->typed[length - 1] == '/';
     enum cause cause = is_name_of_folder ? CAUSE_NAMES_FOLDER : check_handed_over(file->typed);
@@ -267,22 +254,18 @@ static enum cause try_to_open(struct file *file, bool *is_again) {
     name_paths(file);
     if (!is_utf8(file->folder_path)) return CAUSE_FOLDER_NOT_UTF8;
     if (!file->stamp.is_there) return CAUSE_NONE;
-    *is_again = !open_text(file);
-    if (*is_again) return CAUSE_DEVICE;
     find_id(file->itself, &file->id);
     find_facts(file->itself, file->folder, &file->facts);
+    /* the plain file that was found, whatever has its name by now */
+    file->text = open(link_of(file->itself).path, O_RDONLY | O_CLOEXEC | O_NOCTTY);
+    file->is_unreadable = file->text < 0;
     return CAUSE_NONE;
 }
 
 enum cause open_file(struct file *file, const char *typed) {
-    enum cause cause = CAUSE_NONE;
-    bool is_again = true;
-    for (int tries = 0; is_again && tries < OPEN_TRIES; tries++) {
-        is_again = false;
-        *file = (struct file){.typed = typed, .folder = -1, .itself = -1, .text = -1};
-        cause = try_to_open(file, &is_again);
-        if (cause != CAUSE_NONE) close_file(file);
-    }
+    *file = (struct file){.typed = typed, .folder = -1, .itself = -1, .text = -1};
+    enum cause cause = find_and_open(file);
+    if (cause != CAUSE_NONE) close_file(file);
     return cause;
 }
 
@@ -359,17 +342,21 @@ static bool is_left(const struct file *file, const char *name) {
     return strspn(name + stem + 1, DRAFT_ALPHABET) == DRAFT_LETTERS && strcmp(name + stem + 1 + DRAFT_LETTERS, DRAFT_END) == 0;
 }
 
-/* The names are by the path that the user has typed, unless links lead elsewhere. At most MOST_NAMES names are read, so that a large folder
- * does not hold up a start. */
+const char *path_beside(const struct file *file, const char *name) {
+    const char *slash = strrchr(file->typed, '/');
+    if (file->is_linked) return text_of("%s/%s", before_slash(file->folder_path), name);
+    return text_of("%.*s%s", slash ? (int)(slash - file->typed) + 1 : 0, file->typed, name);
+}
+
+/* At most MOST_NAMES names are read, so that a large folder does not hold up a start. */
 const char *leftovers_line(const struct file *file) {
-    const char *slash = strrchr(file->typed, '/'), *name;
-    int length = slash ? (int)(slash - file->typed) + 1 : 0, count = 0, drafts = 0;
+    const char *name;
+    int count = 0, drafts = 0;
     char *names = text_of("%s", "");
     DIR *entries = open_entries(file->folder);
     while (entries && count++ < MOST_NAMES && drafts < MOST_DRAFTS && (name = next_entry(entries))) {
         if (!is_left(file, name)) continue;
-        name = file->is_linked ? text_of("%s/%s", before_slash(file->folder_path), name) : text_of("%.*s%s", length, file->typed, name);
-        names = text_of("%s %s", names, shown(name));
+        names = text_of("%s %s", names, shown(path_beside(file, name)));
         drafts++;
     }
     if (entries) closedir(entries);

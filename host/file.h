@@ -99,6 +99,9 @@ const char *file_message(const struct file *file, enum cause cause, unsigned lon
 /* The message that names files which killed saves left beside FILE; NULL if there are none. */
 const char *leftovers_line(const struct file *file);
 
+/* The path of a name beside FILE, by the folder that the user has typed, unless links lead elsewhere. */
+const char *path_beside(const struct file *file, const char *name);
+
 /* A draft beside FILE is named by the first bytes of FILE's name, at most DRAFT_STEM, a point, DRAFT_LETTERS random letters, and `.bx`. The
  * backup, which has the whole text while a save overwrites FILE, is FILE.bx, or FILE.bx1 to FILE.bx9. */
 #define DRAFT_END ".bx"

@@ -70,7 +70,8 @@ static void note_saved(struct edit *edit) {
 static void mind(struct edit *edit, int report) {
     struct session *session = &edit->session;
     struct report said = {.keeping = session_mind(session), .cause = session->cause, .is_filled = session->about.has_text};
-    if (said.is_filled) release_file(&edit->file);
+    /* of a FILE that was refused the end says more */
+    if (said.is_filled && edit->run.said.is_opened) release_file(&edit->file);
     said.journal = edit->facts.is_journal_lost ? cause_of_loss(session) : NOTICE_NONE;
     /* a host that reads none is ending */
     if (write(report, &said, sizeof said) < 0) errno = 0;

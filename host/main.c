@@ -168,22 +168,21 @@ static int edit_file(struct edit *edit) {
     if (status == GO_ON) status = check_terminal();
     if (status != GO_ON) return status;
     tell_unusual(edit);
-    enum met met = meet_sessions(edit, &status);
-    if (met == MET_END) return status;
-    if (met == MET_TAKEN) return run_editor(edit, true);
+    status = meet_sessions(edit);
+    if (status == TAKEN) return run_editor(edit, true);
     /* FILE may have changed meanwhile */
-    if (met == MET_ASKED) status = check_file(edit, edit->call->file);
+    if (status == ASKED) status = check_file(edit, edit->call->file);
     return status == GO_ON ? run_editor(edit, false) : status;
 }
 
 /* A start with --recover: the session is taken without asking which; with --to its text is only stored. */
 static int edit_recovered(struct edit *edit) {
-    bool is_taken = false;
     if (edit->call->other) return store_session(edit);
     int status = check_terminal();
-    if (status == GO_ON) status = recover_session(edit, &is_taken);
-    if (status == GO_ON && !is_taken) status = check_file(edit, edit->call->file);
-    if (status != GO_ON) return status;
+    if (status == GO_ON) status = recover_session(edit);
+    bool is_taken = status == TAKEN;
+    if (status == ASKED) status = check_file(edit, edit->call->file);
+    if (!is_taken && status != GO_ON) return status;
     tell_unusual(edit);
     return run_editor(edit, is_taken);
 }

@@ -37,10 +37,10 @@ void save_note(struct save *save) {
 static enum cause look(struct save *save, int *itself) {
     struct file_stamp now;
     if (!stamp_and_open(save->folder, save->file->name, &now, itself)) return cause_of(errno);
-    enum stamp_verdict verdict = judge_stamp(&save->state.seen, &now);
-    save->is_there = verdict == STAMP_SAME;
-    if (verdict == STAMP_CHANGED) note(save, &now, *itself);
-    return verdict == STAMP_CHANGED ? CAUSE_CHANGED : verdict == STAMP_NOT_PLAIN ? CAUSE_NOT_PLAIN : CAUSE_NONE;
+    enum cause cause = judge_stamp(&save->state.seen, &now);
+    save->is_there = cause == CAUSE_NONE && now.is_there;
+    if (cause == CAUSE_CHANGED) note(save, &now, *itself);
+    return cause;
 }
 
 /* Whether an open folder is still, or by now, at the path of FILE's folder. Where the system does not say, it is taken for that. */

@@ -35,20 +35,19 @@ const char *reason_harm(enum reason reason) {
     return reasons[reason].harm;
 }
 
-mode_t mode_of_new(struct taken taken, mode_t old) {
+mode_t mode_of_new(mode_t old, bool has_owner, bool has_group) {
     mode_t mode = old & ALL_BITS;
-    bool has_group = taken.group && taken.is_plain;
-    if (taken.owner && has_group) return mode;
+    if (has_owner && has_group) return mode;
     mode &= ~(mode_t)SET_IDS;
     if (has_group) return mode;
     /* the group may have had fewer rights than the bits say, so it gets what all others have */
     return (mode & ~(mode_t)GROUP_BITS) | (mode & OTHERS_BITS) << 3;
 }
 
-enum stamp_verdict judge_stamp(const struct file_stamp *seen, const struct file_stamp *now) {
-    if (!now->is_there) return STAMP_GONE;
-    if (!S_ISREG(now->found.st_mode) && !S_ISLNK(now->found.st_mode)) return STAMP_NOT_PLAIN;
-    return seen->is_there && is_unchanged(&seen->found, &now->found) ? STAMP_SAME : STAMP_CHANGED;
+enum cause judge_stamp(const struct file_stamp *seen, const struct file_stamp *now) {
+    if (!now->is_there) return CAUSE_NONE;
+    if (!S_ISREG(now->found.st_mode) && !S_ISLNK(now->found.st_mode)) return CAUSE_NOT_PLAIN;
+    return seen->is_there && is_unchanged(&seen->found, &now->found) ? CAUSE_NONE : CAUSE_CHANGED;
 }
 
 bool is_same_file(const struct stat *one, const struct stat *other) {

@@ -15,6 +15,8 @@ struct draft {
     /* The folder, which the draft does not close, and the draft's name there; empty while it has none. */
     int folder;
     char name[NAME_MAX + 1];
+    /* Its permissions at its creation. */
+    mode_t mode;
     /* Open for reading and writing; -1 if there is no draft. */
     int file;
 };

@@ -16,10 +16,8 @@
 
 /* NAME_TRIES: how many names to try for a session. LOCK_TRIES: how often to try a lock, for a second in all. COPIED_AT_ONCE: the largest
  * text, in bytes, that is copied before the program reads it. CALM: a larger FILE that nobody has written for so many seconds is copied
- * after the first painting. LONGEST_WITHOUT_KEYS: the longest journal that is read to see whether it has only sizes and notices; at worst a
- * longer one keeps a session without keys. */
-enum { NAME_TRIES = 16, NAME_LETTERS = 8, LOCK_TRIES = 20, LOCK_PAUSE_MS = 50, FOLDER_MODE = 0700, FILE_MODE = 0600, COPIED_AT_ONCE = 1 << 20, CALM = 2,
-       LONGEST_WITHOUT_KEYS = 4096 };
+ * after the first painting. */
+enum { NAME_TRIES = 16, NAME_LETTERS = 8, LOCK_TRIES = 20, LOCK_PAUSE_MS = 50, FOLDER_MODE = 0700, COPIED_AT_ONCE = 1 << 20, CALM = 2 };
 
 void session_clear(struct session *session) {
     *session = (struct session){.parent = -1, .folder = -1, .text = -1, .journal = -1, .source = -1};
@@ -85,39 +83,7 @@ const char *versions_look(const char *version, const char *const *files, size_t 
     return NULL;
 }
 
-/* ---- files in the session's folder */
-
-int part_open(int folder, const char *name, int flags) {
-    return openat(folder, name, flags | O_NOFOLLOW | O_NONBLOCK | O_CLOEXEC, FILE_MODE);
-}
-
-int session_open(const struct session *session, const char *name) {
-    return part_open(session->folder, name, O_RDONLY);
-}
-
-bool session_has(const struct session *session, const char *name) {
-    struct stat found;
-    return fstatat(session->folder, name, &found, AT_SYMLINK_NOFOLLOW) == 0;
-}
-
-void session_path_of(const struct session *session, const char *name, char path[PATH_MAX]) {
-    put_path(path, "%s/%s", session->path, name);
-}
-
-char *read_short(int folder, const char *name, size_t *size) {
-    static char bytes[MOST_ABOUT + 1];
-    size_t length = 0;
-    ssize_t count = 1;
-    int file = part_open(folder, name, O_RDONLY);
-    while (file >= 0 && count > 0 && length < MOST_ABOUT) {
-        count = read(file, bytes + length, MOST_ABOUT - length);
-        if (count > 0) length += (size_t)count;
-    }
-    if (file >= 0) close(file);
-    bytes[length] = '\0';
-    if (size) *size = length;
-    return file < 0 || count < 0 || length == MOST_ABOUT ? NULL : bytes;
-}
+/* ---- what is written in the session's folder */
 
 /* Creates or replaces a file by way of a draft. Synced, unless the session is hasty. */
 static int put_file(const struct session *session, const char *name, const void *bytes, size_t size) {
@@ -153,26 +119,6 @@ bool session_has_mark(const struct session *session, enum mark mark) {
 enum cause session_mark(struct session *session, enum mark mark) {
     session->about.marks |= mark;
     return cause_of(put_about(session));
-}
-
-/* A text that is summed up, and copied to a file unless that is -1. */
-struct copy {
-    int to, error;
-    struct sum sum;
-};
-
-static void take_piece(void *context, const char *bytes, size_t size) {
-    struct copy *copy = context;
-    if (copy->to >= 0 && !copy->error) copy->error = write_bytes(copy->to, bytes, size);
-    sum_more(&copy->sum, bytes, size);
-}
-
-bool sum_file(int file, struct sum *sum) {
-    struct copy copy = {.to = -1};
-    sum_begin(&copy.sum);
-    bool is_read = read_pieces(file, 0, take_piece, &copy) == 0;
-    *sum = copy.sum;
-    return is_read;
 }
 
 /* ---- the folder, and its lock */
@@ -238,24 +184,6 @@ static int lock(struct session *session) {
     return error;
 }
 
-/* Whether another process has locked an open file; EWOULDBLOCK if so, or the fault. */
-static int try_lock(int file) {
-    if (flock(file, LOCK_SH | LOCK_NB) != 0) return errno;
-    flock(file, LOCK_UN);
-    return 0;
-}
-
-bool session_is_live(const struct session *session) {
-    if (session->is_locked) return false;
-    int error = try_lock(session->folder);
-    if (error && error != EWOULDBLOCK) {
-        int journal = part_open(session->folder, JOURNAL_NAME, O_RDWR);
-        error = journal >= 0 ? try_lock(journal) : errno == ENOENT ? 0 : errno;
-        if (journal >= 0) close(journal);
-    }
-    return error || (session->about.is_old && old_is_locked(session->folder));
-}
-
 enum lock_result session_lock(struct session *session) {
     if (!session_is_there(session)) return LOCK_GONE;
     session->journal = part_open(session->folder, JOURNAL_NAME, O_RDWR | O_APPEND);
@@ -278,6 +206,18 @@ enum lock_result session_lock(struct session *session) {
 }
 
 /* ---- the copy of FILE's text */
+
+/* A text that is copied and summed up. */
+struct copy {
+    int to, error;
+    struct sum sum;
+};
+
+static void take_piece(void *context, const char *bytes, size_t size) {
+    struct copy *copy = context;
+    if (!copy->error) copy->error = write_bytes(copy->to, bytes, size);
+    sum_more(&copy->sum, bytes, size);
+}
 
 /* Whether a file was written a moment ago, so that it may change while it is read. */
 static bool is_being_written(const struct stat *look) {
@@ -399,11 +339,6 @@ static bool has_lost(const struct session *session) {
     return !session_is_there(session) || !has_text || !has_about || !is_named(session, JOURNAL_NAME, session->journal);
 }
 
-/* For read_pieces: sums up a piece of the journal. */
-static void sum_piece(void *sum, const char *bytes, size_t size) {
-    sum_more(sum, bytes, size);
-}
-
 /* Syncs the journal if it has changed, and sums up what is new. A program whose text is saved has emptied it. */
 static int sync_journal(struct session *session) {
     struct sum *sum = &session->about.journal;
@@ -413,7 +348,7 @@ static int sync_journal(struct session *session) {
     if (!session->is_journal_due) return 0;
     struct sum next = *sum;
     if ((uint64_t)found.st_size < next.size) sum_begin(&next);
-    int error = read_pieces(session->journal, (off_t)next.size, sum_piece, &next);
+    int error = sum_rest(session->journal, &next);
     if (!error && !session->is_hasty) error = sync_file(session->journal);
     if (error) return error;
     *sum = next;
@@ -502,13 +437,6 @@ enum cause session_go_on(struct session *session, const char *beside, bool is_of
 
 /* ---- the end */
 
-/* Returns 0 if the session still has its name in its folder of sessions, otherwise ENOENT or a fault. */
-static int find_itself(const struct session *session) {
-    struct stat own, named;
-    if (fstat(session->folder, &own) != 0 || fstatat(session->parent, session_name(session), &named, AT_SYMLINK_NOFOLLOW) != 0) return errno;
-    return is_same_file(&own, &named) ? 0 : ENOENT;
-}
-
 void session_erase(const struct session *session, const char *name) {
     const char *part;
     DIR *entries = open_entries(session->folder);
@@ -520,7 +448,7 @@ void session_erase(const struct session *session, const char *name) {
 enum cause session_remove(struct session *session) {
     char dead[NAME_MAX + 1];
     const char *name = session_name(session);
-    int error = find_itself(session);
+    int error = session_find_itself(session);
     if (error) return error == ENOENT ? CAUSE_NONE : cause_of(error);
     snprintf(dead, sizeof dead, DEAD_BEGIN "%.*s", NAME_MAX - (int)sizeof DEAD_BEGIN, name);
     if (renameat(session->parent, name, session->parent, dead) != 0) return cause_of(errno);
@@ -530,140 +458,4 @@ enum cause session_remove(struct session *session) {
 
 void session_remove_unless_locked(struct session *session) {
     if (session_lock(session) == LOCK_TAKEN) session_remove(session);
-}
-
-/* ---- facts */
-
-const char *session_name(const struct session *session) {
-    const char *end = strrchr(session->path, '/');
-    return end ? end + 1 : session->path;
-}
-
-bool session_is_there(const struct session *session) {
-    struct stat parent, named;
-    char above[PATH_MAX];
-    if (find_itself(session) != 0 || fstat(session->parent, &parent) != 0) return false;
-    /* the folder of sessions itself may have been moved away, with the session in it */
-    size_t length = (size_t)(session_name(session) - session->path);
-    if (length > 1) length--;
-    return put_path(above, "%.*s", (int)length, session->path) && lstat(above, &named) == 0 && is_same_file(&parent, &named);
-}
-
-bool session_is_own(const struct session *session) {
-    struct stat found;
-    const char *name;
-    if (fstat(session->folder, &found) != 0 || !is_private(found.st_uid, found.st_mode, session->user)) return false;
-    DIR *entries = open_entries(session->folder);
-    bool is_own = entries;
-    while (is_own && (name = next_entry(entries)))
-        is_own = fstatat(session->folder, name, &found, AT_SYMLINK_NOFOLLOW) == 0 && S_ISREG(found.st_mode) && found.st_uid == session->user;
-    is_own = is_own && errno == 0;
-    if (entries) closedir(entries);
-    return is_own;
-}
-
-uint64_t session_kilobytes(const struct session *session) {
-    struct stat found;
-    const char *name;
-    uint64_t blocks = fstat(session->folder, &found) == 0 ? (uint64_t)found.st_blocks : 0;
-    DIR *entries = open_entries(session->folder);
-    while (entries && (name = next_entry(entries)))
-        if (fstatat(session->folder, name, &found, AT_SYMLINK_NOFOLLOW) == 0) blocks += (uint64_t)found.st_blocks;
-    if (entries) closedir(entries);
-    /* the system counts blocks of 512 bytes */
-    return (blocks + 1) / 2;
-}
-
-/* For read_pieces: counts the keys in a piece of the journal. */
-static void count_piece(void *count, const char *bytes, size_t size) {
-    count_more(count, bytes, size);
-}
-
-/* Counts the keys of the journal; false if it is there and cannot be read. */
-static bool count_journal(const struct session *session, struct key_count *count) {
-    bool is_open = session->journal >= 0;
-    count_begin(count);
-    int journal = is_open ? session->journal : session_open(session, JOURNAL_NAME);
-    if (journal < 0) return errno == ENOENT;
-    bool is_read = read_pieces(journal, 0, count_piece, count) == 0;
-    if (!is_open) close(journal);
-    return is_read;
-}
-
-size_t session_count_keys(const struct session *session) {
-    struct key_count count;
-    return count_journal(session, &count) ? count.keys : 0;
-}
-
-off_t session_journal_size(const struct session *session) {
-    struct stat found;
-    if (session->journal >= 0) return fstat(session->journal, &found) == 0 ? found.st_size : -1;
-    return fstatat(session->folder, JOURNAL_NAME, &found, AT_SYMLINK_NOFOLLOW) == 0 ? found.st_size : -1;
-}
-
-bool session_has_keys(const struct session *session) {
-    struct key_count count;
-    return session_journal_size(session) > LONGEST_WITHOUT_KEYS || !count_journal(session, &count) || count.keys > 0;
-}
-
-/* Whether the journal is there, with all that was on the disk. */
-static bool has_whole_journal(const struct session *session) {
-    off_t size = session_journal_size(session);
-    return size >= 0 && (uint64_t)size >= session->about.journal.size;
-}
-
-bool session_has_something(const struct session *session) {
-    return session_has_keys(session) || session_has_mark(session, MARK_UNSAVED) || session_has(session, BACKUP_NAME) ||
-           (session->about.has_text && !has_whole_journal(session));
-}
-
-enum session_state session_state(const struct session *session) {
-    const struct about *about = &session->about;
-    struct state_facts facts = {.is_locked = session_is_live(session)};
-    if (!facts.is_locked) {
-        facts.may_be_elsewhere = may_go_on_elsewhere(about->has_process ? &about->process : NULL, this_process());
-        facts.has_something = session_has_something(session);
-        facts.is_dropped = about->marks & MARK_DROPPED;
-    }
-    return judge_state(&facts);
-}
-
-/* The rest of a sum of which `left` bytes are still to come. */
-struct partial {
-    struct sum sum;
-    uint64_t left;
-};
-
-static void sum_partly(void *context, const char *bytes, size_t size) {
-    struct partial *partial = context;
-    if (size > partial->left) size = (size_t)partial->left;
-    partial->left -= size;
-    sum_more(&partial->sum, bytes, size);
-}
-
-/* Whether the beginning of a file has this sum. */
-static bool has_sum(const struct session *session, const char *name, const struct sum *wanted) {
-    struct partial partial = {.left = wanted->size};
-    sum_begin(&partial.sum);
-    int file = session_open(session, name);
-    if (file < 0) return false;
-    bool is_same = read_pieces(file, 0, sum_partly, &partial) == 0 && is_same_sum(&partial.sum, wanted);
-    close(file);
-    return is_same;
-}
-
-const char *session_damage(const struct session *session) {
-    const struct about *about = &session->about;
-    if (!has_whole_journal(session)) return "keys are missing";
-    if (about->is_old) return NULL;
-    if (about->is_damaged) return "its file about has changed";
-    if (about->has_text && !has_sum(session, TEXT_NAME, &about->text)) return "its text has changed";
-    return has_sum(session, JOURNAL_NAME, &about->journal) ? NULL : "its keys have changed";
-}
-
-bool session_changed(const struct session *session, struct timespec *time) {
-    struct stat found;
-    bool is_seen = fstatat(session->folder, JOURNAL_NAME, &found, AT_SYMLINK_NOFOLLOW) == 0 || fstat(session->folder, &found) == 0;
-    if (is_seen) *time = found.st_mtim;
-    return is_seen;
 }

@@ -161,7 +161,7 @@ void session_erase(const struct session *session, const char *name);
 enum cause session_mark(struct session *session, enum mark mark);
 bool session_has_mark(const struct session *session, enum mark mark);
 
-/* ---- a session's files */
+/* ---- a session's files (session_facts.c) */
 
 /* Opens a file of a folder, never following a link or waiting for a pipe. */
 int part_open(int folder, const char *name, int flags);
@@ -175,13 +175,16 @@ void session_path_of(const struct session *session, const char *name, char path[
 char *read_short(int folder, const char *name, size_t *size);
 /* Identifies the file of this name in a folder. */
 bool file_id_at(int folder, const char *name, struct file_id *id);
-/* Sums up all of an open file. */
+/* Sums up all of an open file; or the bytes after those that the sum has, where it returns 0 or an errno. */
 bool sum_file(int file, struct sum *sum);
+int sum_rest(int file, struct sum *sum);
 
 /* ---- facts of a session */
 
 const char *session_name(const struct session *session);
-/* Whether the session still exists, under its name in its folder of sessions. */
+/* Returns 0 if the session still has its name in its folder of sessions, otherwise ENOENT or a fault. */
+int session_find_itself(const struct session *session);
+/* Whether the session still exists, and its folder of sessions is still at its path. */
 bool session_is_there(const struct session *session);
 /* Whether the user owns the folder, nobody else can write it, and it has only plain files of the user's. */
 bool session_is_own(const struct session *session);

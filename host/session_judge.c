@@ -397,80 +397,28 @@ bool is_as_left(const struct step *step, const struct step *now) {
 
 /* ---- keys */
 
-/* The state after the first byte of a key. A Save is noted, since a size may follow that was recorded with it. */
-static enum after behind_first(unsigned char byte) {
-    enum { SAVE = 0x13, ESCAPE = 0x1b };
-    if (byte == SAVE) return AFTER_SAVE;
-    return byte == ESCAPE ? AFTER_ESCAPE : AFTER_KEY;
-}
-
-static bool is_parameter(unsigned char byte) {
-    return (byte >= '0' && byte <= '9') || byte == ';';
-}
-
-static bool is_final(unsigned char byte) {
-    return (byte >= 'A' && byte <= 'Z') || (byte >= 'a' && byte <= 'z') || byte == '~';
-}
-
-/* Begins a key with a byte; one that goes on with a character (80 to BF in UTF-8) is none. */
-static void begin_key(struct key_count *count, unsigned char byte) {
-    count->keys += byte < 0x80 || byte > 0xbf;
-    count->after = behind_first(byte);
-}
-
-/* Counts some keys less, at least none. */
-static void take_back(struct key_count *count, size_t keys) {
-    count->keys = count->keys > keys ? count->keys - keys : 0;
-}
-
-/* Reads a byte of a control sequence. One that ends in t is a size of the window, and no key. */
-static void in_sequence(struct key_count *count, unsigned char byte) {
-    if (is_parameter(byte)) return;
-    if (byte == '>') {
-        count->after = IN_NOTICE;
-    } else if (is_final(byte)) {
-        /* a size, and the Save right before it, are no keys */
-        if (byte == 't') take_back(count, count->after == IN_SAVED_SEQUENCE ? 2 : 1);
-        count->after = AFTER_KEY;
-    } else {
-        begin_key(count, byte);
-    }
-}
-
-/* Reads a byte of a sequence with >. One that ends in ~ is a notice, and no key. */
-static void in_notice(struct key_count *count, unsigned char byte) {
-    if (is_parameter(byte)) return;
-    if (is_final(byte)) {
-        if (byte == '~') take_back(count, 1);
-        count->after = AFTER_KEY;
-    } else {
-        begin_key(count, byte);
-    }
-}
-
-/* Reads a byte of a journal. `after` carries the state on to the next one, so the journal may come in any pieces. */
+/* Reads a byte of a journal. Bytes that go on with a character (80 to BF in UTF-8) or with a sequence are no keys of their own. */
 static void count_byte(struct key_count *count, unsigned char byte) {
-    enum after after = count->after;
-    switch (after) {
-    case IN_SEQUENCE:
-    case IN_SAVED_SEQUENCE: in_sequence(count, byte); return;
-    case IN_NOTICE: in_notice(count, byte); return;
-    case AFTER_ESCAPE:
-    case AFTER_SAVED_ESCAPE:
-        if (byte == '[') {
-            count->after = after == AFTER_ESCAPE ? IN_SEQUENCE : IN_SAVED_SEQUENCE;
-            return;
-        }
-        break;
-    case AFTER_SAVE:
-    case AFTER_KEY: break;
+    enum { SAVE = 0x13, ESCAPE = 0x1b };
+    if (count->is_in_sequence) {
+        bool is_final = (byte >= 'A' && byte <= 'Z') || (byte >= 'a' && byte <= 'z') || byte == '~', is_mark = byte == '>' && !count->is_notice;
+        if ((byte >= '0' && byte <= '9') || byte == ';') return;
+        if (is_mark) count->is_notice = true;
+        if (is_mark) return;
+        count->is_in_sequence = false;
+        /* a size, and the Save right before it, and a notice are no keys */
+        if (byte == 't' && !count->is_notice) count->keys -= count->is_saved ? 2 : 1;
+        if (byte == '~' && count->is_notice) count->keys--;
+        if (is_final) return;
+    } else if (count->is_escape && byte == '[') {
+        count->is_in_sequence = true;
+        count->is_escape = count->is_notice = false;
+        return;
     }
-    begin_key(count, byte);
-    if (after == AFTER_SAVE && count->after == AFTER_ESCAPE) count->after = AFTER_SAVED_ESCAPE;
-}
-
-void count_begin(struct key_count *count) {
-    *count = (struct key_count){.keys = 0, .after = AFTER_KEY};
+    count->keys += byte < 0x80 || byte > 0xbf;
+    count->is_saved = byte == ESCAPE && count->is_save;
+    count->is_save = byte == SAVE;
+    count->is_escape = byte == ESCAPE;
 }
 
 void count_more(struct key_count *count, const char *bytes, size_t size) {

@@ -183,15 +183,13 @@ void words_of_step(const struct step *step, char words[MOST_WORDS]);
 /* Whether FILE, which has a part of the backup's text, is as the save left it. `now` has its identity, size (`from`), time and boot. */
 bool is_as_left(const struct step *step, const struct step *now);
 
-/* Counts a journal's keys, piece by piece, without replaying them. It does not count notices of the host, sizes of the window, and
- * a Save right before a size: a recovered session begins with these two. */
-enum after { AFTER_KEY, AFTER_SAVE, AFTER_ESCAPE, AFTER_SAVED_ESCAPE, IN_SEQUENCE, IN_SAVED_SEQUENCE, IN_NOTICE };
+/* Counts a journal's keys, piece by piece and from zero on, without replaying them. It does not count notices of the host, sizes of the
+ * window, and a Save right before a size: a recovered session begins with these two. */
 struct key_count {
     size_t keys;
-    /* What the last bytes were, since the next one may belong to the same key. SAVED: a Save came right before them. */
-    enum after after;
+    /* The last byte was a Save, or an Escape; a Save came right before the last Escape. In a control sequence, which may be a notice. */
+    bool is_save, is_escape, is_saved, is_in_sequence, is_notice;
 };
-void count_begin(struct key_count *count);
 void count_more(struct key_count *count, const char *bytes, size_t size);
 
 /* ---- what is kept of a running session */

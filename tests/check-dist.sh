@@ -12,13 +12,14 @@ top=${here%/*}
 # shellcheck source=tools/launcher/dist.sh
 . "$top/tools/launcher/dist.sh"
 folder=$(mktemp -d) || exit 1
-trap 'chmod -R u+w "$folder"; rm -rf -- "$folder"' EXIT
+socket=dist$$
+trap 'tmux -L "$socket" kill-server 2>/dev/null; chmod -R u+w "$folder"; rm -rf -- "$folder"' EXIT
 trap 'exit 1' HUP INT TERM
 passed=0 failed=0 skipped=0
 # shellcheck disable=SC2034 # of the parts
 tree=$folder/tree names=$dist_programs player=$dist_player
 export LC_ALL=C HOME="$folder/home" TOLD="$folder/told"
-unset XDG_CACHE_HOME
+unset XDG_CACHE_HOME TMUX
 umask 022
 
 skip() { # NAME CAUSE
@@ -26,7 +27,7 @@ skip() { # NAME CAUSE
     echo "skipped $1: $2"
 }
 
-for part in tree starts places proofs; do
+for part in tree starts places waiting proofs; do
     # shellcheck source=/dev/null
     . "$here/dist/$part.sh"
 done
@@ -55,6 +56,9 @@ run sources check_sources
 run sums check_sums
 run machine check_machine
 run compiler check_compiler
+run toolchain check_no_toolchain
+run tools check_tools
+run waiting check_waiting
 run together check_together
 run killed check_killed
 run unwritable check_unwritable

@@ -160,6 +160,35 @@ check_sources() { # NAME
     runs "$1, changed back"
 }
 
+# What a start says that has to prove and build, where there is no toolchain: what to do next.
+check_no_toolchain() { # NAME
+    make_path
+    end=', and the toolchain (rt), which would prove and build the editor, is not installed'
+    echo '// more' >>"$tree/crates/low/src/main.rt"
+    start PATH="$folder/path"
+    same "$1, changed sources" "$status $(cat "$folder/said")" \
+        "1 bidi-edit: the sources are not those that dist/ was built from$end: git status shows what was changed in crates/, and README.md names the toolchain"
+    cp "$folder/first/crates/low/src/main.rt" "$tree/crates/low/src/main.rt"
+    change_byte SOURCES
+    start PATH="$folder/path"
+    same "$1, changed bytes" "$status $(cat "$folder/said")" \
+        "1 bidi-edit: dist/SOURCES does not match its checksum in dist/SHA256SUMS$end: git checkout dist brings back what was committed"
+    rm -r "$tree/dist"
+    start PATH="$folder/path"
+    same "$1, no dist/" "$status $(cat "$folder/said")" "1 bidi-edit: dist/ is missing$end: git checkout dist brings it back"
+    same "$1, nothing is left" "$([ -e "$tree/out" ] && ls "$tree/out")" ''
+}
+
+# Without a tool of the start, it says which one.
+check_tools() { # NAME
+    for lacking in sha256sum tar; do
+        make_path "$lacking"
+        start PATH="$folder/path"
+        same "$1, no $lacking" "$status $(cat "$folder/said")" \
+            "1 bidi-edit: there is no $lacking, which a start from dist/ needs: install it (on Debian, apt install coreutils mawk findutils tar gzip)"
+    done
+}
+
 # Changes the second last byte of a file in dist/.
 change_byte() { # NAME
     printf x | dd of="$tree/dist/$1" bs=1 seek="$(($(wc -c <"$tree/dist/$1") - 2))" conv=notrunc 2>/dev/null
@@ -197,6 +226,6 @@ check_machine() { # NAME
     for name in $names; do rm -r "$tree/crates/$name/out"; done
     rm -rf "$tree/out"
     start
-    refuses "$1, without a loader" 'the programs in dist/ do not run on this machine'
+    refuses "$1, without a loader" "the programs in dist/ do not run on this machine: they need glibc 2.34 or later, and this is $(getconf GNU_LIBC_VERSION)"
     tar -xzf "$folder/first/dist/bidi-edit-x86_64-linux.tar.gz" -C "$TOLD/built" bidi_edit
 }

@@ -48,6 +48,7 @@ make_repository() {
     make_host_source "$folder/first/host/main.c" host
     : >"$folder/first/host/main.h"
     # the version of sources outside a commit
+    # shellcheck disable=SC2034 # of the other parts
     base_version=$(sed -n 's/^## \([0-9.]*\), unreleased$/\1~git/p; t; s/^## \([0-9.]*\), .*/\1/p' "$here/../CHANGELOG.md" | head -n 1)
     tree=$folder/first
     build_all

@@ -64,9 +64,7 @@ static void try_name(const char *name) {
 /* A text gives the same whole and in two pieces. */
 static void try_text(const char *text, size_t size) {
     size_t split = size > 0 ? (unsigned char)text[0] % size : 0;
-    struct key_count whole, parts;
-    count_begin(&whole);
-    count_begin(&parts);
+    struct key_count whole = {0}, parts = {0};
     count_more(&whole, text, size);
     count_more(&parts, text, split);
     count_more(&parts, text + split, size - split);

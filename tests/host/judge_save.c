@@ -108,8 +108,8 @@ static const struct {
 /* The permissions of a new file, by what of the old one was taken over. */
 static void check_modes(void) {
     for (size_t i = 0; i < sizeof modes / sizeof *modes; i++) {
-        struct taken taken = {.owner = strchr(modes[i].taken, 'o'), .group = strchr(modes[i].taken, 'g'), .is_plain = strchr(modes[i].taken, 'p')};
-        check(modes[i].name, (long)mode_of_new(taken, modes[i].old), (long)modes[i].wanted);
+        bool has_owner = strchr(modes[i].taken, 'o'), has_group = strchr(modes[i].taken, 'g') && strchr(modes[i].taken, 'p');
+        check(modes[i].name, (long)mode_of_new(modes[i].old, has_owner, has_group), (long)modes[i].wanted);
     }
 }
 
@@ -119,29 +119,29 @@ static void check_modes(void) {
  * out what was seen. */
 static const struct {
     const char *name;
-    enum stamp_verdict wanted;
+    enum cause wanted;
     char change;
     bool is_taken_out;
 } changes[] = {
-    {"nothing", STAMP_SAME, '=', true},
-    {"gone", STAMP_GONE, '-', false},
-    {"another device", STAMP_CHANGED, 'd', false},
-    {"another inode", STAMP_CHANGED, 'i', false},
-    {"another size", STAMP_CHANGED, 's', false},
-    {"another second", STAMP_CHANGED, 't', false},
-    {"another nanosecond", STAMP_CHANGED, 'n', false},
-    {"another time of change", STAMP_CHANGED, 'c', true},
-    {"another nanosecond of change", STAMP_CHANGED, 'C', true},
-    {"another mode", STAMP_CHANGED, 'm', false},
-    {"another owner", STAMP_CHANGED, 'u', false},
-    {"another group", STAMP_CHANGED, 'g', false},
-    {"another name", STAMP_CHANGED, 'l', false},
-    {"read", STAMP_SAME, 'a', true},
-    {"a link in its place", STAMP_CHANGED, 'L', false},
-    {"a folder in its place", STAMP_NOT_PLAIN, 'D', false},
-    {"a pipe in its place", STAMP_NOT_PLAIN, 'P', false},
-    {"a device in its place", STAMP_NOT_PLAIN, 'V', false},
-    {"a socket in its place", STAMP_NOT_PLAIN, 'S', false},
+    {"nothing", CAUSE_NONE, '=', true},
+    {"gone", CAUSE_NONE, '-', false},
+    {"another device", CAUSE_CHANGED, 'd', false},
+    {"another inode", CAUSE_CHANGED, 'i', false},
+    {"another size", CAUSE_CHANGED, 's', false},
+    {"another second", CAUSE_CHANGED, 't', false},
+    {"another nanosecond", CAUSE_CHANGED, 'n', false},
+    {"another time of change", CAUSE_CHANGED, 'c', true},
+    {"another nanosecond of change", CAUSE_CHANGED, 'C', true},
+    {"another mode", CAUSE_CHANGED, 'm', false},
+    {"another owner", CAUSE_CHANGED, 'u', false},
+    {"another group", CAUSE_CHANGED, 'g', false},
+    {"another name", CAUSE_CHANGED, 'l', false},
+    {"read", CAUSE_NONE, 'a', true},
+    {"a link in its place", CAUSE_CHANGED, 'L', false},
+    {"a folder in its place", CAUSE_NOT_PLAIN, 'D', false},
+    {"a pipe in its place", CAUSE_NOT_PLAIN, 'P', false},
+    {"a device in its place", CAUSE_NOT_PLAIN, 'V', false},
+    {"a socket in its place", CAUSE_NOT_PLAIN, 'S', false},
 };
 
 static void set_kind(struct stat *found, mode_t kind) {
@@ -186,10 +186,10 @@ static void check_changes(void) {
         check(changes[i].name, is_taken_out(&seen, &now), changes[i].is_taken_out);
     }
     struct file_stamp link = change(seen, 'L');
-    check("a link that was seen", judge_stamp(&link, &link), STAMP_SAME);
-    check("a new file", judge_stamp(&nothing, &seen), STAMP_CHANGED);
-    check("a new link", judge_stamp(&nothing, &link), STAMP_CHANGED);
-    check("still nothing", judge_stamp(&nothing, &nothing), STAMP_GONE);
+    check("a link that was seen", judge_stamp(&link, &link), CAUSE_NONE);
+    check("a new file", judge_stamp(&nothing, &seen), CAUSE_CHANGED);
+    check("a new link", judge_stamp(&nothing, &link), CAUSE_CHANGED);
+    check("still nothing", judge_stamp(&nothing, &nothing), CAUSE_NONE);
     check("nothing was seen, and a file is taken out", is_taken_out(&nothing, &seen), false);
 }
 

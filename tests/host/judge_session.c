@@ -279,8 +279,7 @@ static void check_keys(void) {
     for (size_t at = 0; at < sizeof cases / sizeof *cases; at++) {
         size_t length = strlen(cases[at].journal);
         for (size_t split = 0; split <= length; split++) {
-            struct key_count count;
-            count_begin(&count);
+            struct key_count count = {0};
             count_more(&count, cases[at].journal, split);
             count_more(&count, cases[at].journal + split, length - split);
             check(count.keys == cases[at].keys, "keys", cases[at].journal);

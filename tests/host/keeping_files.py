@@ -141,6 +141,32 @@ def cut_by_another(check, place):
             os.unlink(name)
 
 
+@needs('cc')
+def emptied_by_save(check, place):
+    """A save is killed right after it has emptied a FILE with two names: a start by either name, and at any answer, restores the text."""
+    library = f'{place.top}/slow_sync.so'
+    subprocess.run(['cc', '-shared', '-fPIC', '-D_GNU_SOURCE', '-o', library, f'{os.path.dirname(__file__)}/slow_sync.c'], check=True)
+    slow = {'LD_PRELOAD': library, 'SLOW_CUT': '1', 'ASAN_OPTIONS': 'verify_asan_link_order=0'}
+    for name in ('a.txt', 'b.txt'):
+        place.put('a.txt', b'text\n')
+        os.link(place.path('a.txt'), place.path('b.txt'))
+        started = place.edit('a.txt', **slow).type(b'abc').sees(b'*').type(SAVE)
+        end = time.monotonic() + 20
+        while place.text('a.txt') != b'' and time.monotonic() < end:
+            time.sleep(0.01)
+        for process in (started.run.job, started.run.child('bidi-saver'), started.run.child('bidi_edit')):
+            os.kill(process, signal.SIGKILL)
+        started.ends(-signal.SIGKILL)
+        check.same('FILE after the kill', place.text('b.txt'), b'')
+        found = place.start(name).answers(CHOICE, 'l').sees(b'text <abctext|>').type(QUIT).ends(0)
+        told = f'bidi-edit: a save of {name} was interrupted; its whole text has been restored\n'
+        check.holds('what is told', found.err().startswith(told), found.err())
+        check.same('FILE', place.text('a.txt'), b'abctext\n')
+        place.tells('--forget')
+        for path in glob.glob(place.path('*')):
+            os.unlink(path)
+
+
 def start_on_full_disk(check, place, disk, filler):
     """Fills the disk with the file `filler`, and starts the host with its sessions there: it tells that it keeps none."""
     try:
@@ -231,4 +257,4 @@ def watched_files(check, place):
     started.type(QUIT).ends(0)
 
 
-CASES = [forgets, foreign_names, closed_files, renamed, torn, cut_by_another, full_disk, read_only_disk, large, watched_files]
+CASES = [forgets, foreign_names, closed_files, renamed, torn, cut_by_another, emptied_by_save, full_disk, read_only_disk, large, watched_files]

@@ -136,16 +136,12 @@ def disk_unmounted(check, place):
 
 @needs("strace")
 def pipe_at_opening(check, place):
-    """FILE becomes a pipe between the look at it and the opening: it is refused, and nothing waits."""
+    """FILE becomes a pipe right before it is opened: it is refused, and nothing waits."""
     write(place.note, "old\n")
     words = words_of_old("note") if is_old else [driver, "note"]
-    # the first opening is a look
     process = subprocess.Popen([*slow("openat", 2, "-P", "note"), *words], cwd=place.folder, stdin=subprocess.PIPE, stdout=subprocess.PIPE,
                                stderr=subprocess.DEVNULL, text=True)
     wait_until_late(process, own_name)
-    if not is_old:
-        time.sleep(2)
-        wait_until_late(process, own_name)
     os.remove(place.note)
     os.mkfifo(place.note)
     try:
@@ -273,6 +269,7 @@ REFUSED = {
     "in_bytes": "in_bytes is a link to a name that is not UTF-8: rename that file with mv",
     "plain/x": "plain is not a folder: name a file in a folder",
     "none/x": "the folder none does not exist: mkdir -p none creates it",
+    "a" * 256: f"the name {'a' * 256} is too long for its disk: choose a shorter one",
     "plain/y/x": "the folder plain/y cannot exist, since its path leads through a file: name a file in a folder",
 }
 

@@ -96,6 +96,8 @@ name_of() { # BYTES
 
 check_refused_names() {
     refused 'checks, a name of 255 bytes' "$no_terminal" "$(name_of 255)"
+    long=$(name_of 256)
+    refused 'checks, a name of 256 bytes' "1 bidi-edit: the name '$long' is too long for its disk: choose a shorter one" "$long"
     refused 'checks, control bytes in a name' "1 bidi-edit: the folder \$'no\\012ne\\033' does not exist: mkdir -p \$'no\\012ne\\033' creates it" "$(printf 'no\nne\033/f')"
     refused 'checks, blanks in a name' "1 bidi-edit: the folder 'no one'\\''s' does not exist: mkdir -p 'no one'\\''s' creates it" "no one's/f"
     refused 'checks, a name that is not UTF-8' "1 bidi-edit: \$'f\\377' has a name that is not UTF-8: rename it with mv" "f$(printf '\377')"

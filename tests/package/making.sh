@@ -53,6 +53,9 @@ check_twice() { # NAME
     (umask 077 && make_files "$folder/another folder" "$folder/second" TZ=Asia/Jerusalem LC_ALL=C && exit "$status")
     status=$?
     same_bytes "$1, a clone in another folder" "$folder/second"
+    git clone -q --config core.autocrlf=true "$source" "$folder/with CR"
+    make_files "$folder/with CR" "$folder/lines"
+    same_bytes "$1, a clone with core.autocrlf" "$folder/lines"
     make_files "$folder/tarball" "$folder/third" CC=no-compiler
     same_bytes "$1, a tarball, and no compiler" "$folder/third"
     if has_tool "$1, another day" faketime; then

@@ -48,7 +48,7 @@ make_host() { # FOLDER
     fi
     case $told in
     *'there is no C compiler'*)
-        say_fault 'there is no C compiler, and the host in dist/ was not built from the sources in host/: install a compiler (on Debian, apt install gcc libc6-dev)'
+        say_fault 'there is no C compiler, and the host in dist/ was not built from the sources in host/: install a compiler (on Debian, apt install gcc libc6-dev), or undo what was changed in host/ (git status shows it)'
         ;;
     *) printf '%s\n' "$told" >&2 ;;
     esac
@@ -78,6 +78,12 @@ run_here() { # FOLDER
     "$1/lib/bidi_edit/bidi_edit" </dev/null >/dev/null 2>&1
     # a shell's statuses of a program that cannot be executed, and of signals
     [ $? -lt 126 ]
+}
+
+# Prints why the programs do not run here, as far as the system tells.
+tell_no_run() {
+    libc=$(getconf GNU_LIBC_VERSION 2>/dev/null) || libc='another C library'
+    echo "the programs in dist/ do not run on this machine: they need glibc 2.34 or later, and this is ${libc:-another C library}"
 }
 
 # Makes the folder beside its place and then renames it, so that its place never has a part of it. `beside` is removed at the end.
@@ -125,18 +131,75 @@ make_room() {
         is_own_place && { [ "$place" = "$top/out/start" ] || chmod 700 -- "${place%/*}"; } && : >>"$place.lock"
 }
 
-# Makes the place ready and sets `start`. It returns the same statuses as find_start.
-prepare() {
+# Removes all but the three newest folders of the user's cache, which belong to other checkouts. The one that was just made ready stays.
+remove_old() {
+    [ "$place" != "$top/out/start" ] || return 0
+    # shellcheck disable=SC2012 # a name is a digest
+    (cd -- "${place%/*}" && ls -t -d -- */lib/bidi_edit/SOURCES) 2>/dev/null | sed 's|/.*||' |
+        awk -v own="${place##*/}" '$0 != own && /^[0-9a-f]+$/ && length($0) == 64 && ++count > 2' |
+        while read -r old; do rm -rf -- "${place%/*}/${old:?}" "${place%/*}/$old.lock"; done
+}
+
+# ---- the terminal meanwhile
+
+# Whether this process is the one that the terminal belongs to; another would be stopped if it changed the terminal.
+is_foreground() {
+    read -r line <"/proc/$$/stat" 2>/dev/null || return
+    # shellcheck disable=SC2086 # split into words
+    set -- ${line##*) }
+    [ "$3" = "$6" ]
+}
+
+# Leaves unseen what is typed until the editor begins, which then takes it, and says after a second why that takes time.
+begin_wait() {
+    modes='' teller=''
+    [ ! -t 2 ] || {
+        (
+            trap 'kill "$!" 2>/dev/null; exit' TERM
+            sleep 1 &
+            wait "$!"
+            say_fault 'preparing the start, which takes some seconds'
+        ) &
+        teller=$!
+    }
+    is_foreground && modes=$(stty -g </dev/tty 2>/dev/null) && stty -echo </dev/tty 2>/dev/null || modes=''
+}
+
+end_wait() {
+    [ -z "$teller" ] || { kill "$teller" && wait "$teller"; } 2>/dev/null
+    [ -z "$modes" ] || stty "$modes" </dev/tty 2>/dev/null
+    modes='' teller=''
+}
+
+# Makes the place ready for the script bidi-edit, which has no traps, while the terminal waits.
+prepare_waiting() {
+    begin_wait
+    trap 'end_wait; exit 129' HUP
+    trap 'end_wait; exit 130' INT
+    trap 'end_wait; exit 131' QUIT
+    trap 'end_wait; exit 143' TERM
+    (trap - HUP INT QUIT TERM && prepare_alone) 9>>"$place.lock"
+    prepared=$?
+    trap - HUP INT QUIT TERM
+    end_wait
+    return "$prepared"
+}
+
+# Makes the place ready and sets `start`. It returns the same statuses as find_start, and has its words.
+prepare() { # [thoroughly]
     told=$(in_english make_room) || {
         [ -n "$told" ] || told=': it belongs to another user'
         refuse_place "$told"
         return
     }
-    (prepare_alone) 9>>"$place.lock"
+    if [ $# = 0 ]; then prepare_waiting; else (prepare_alone) 9>>"$place.lock"; fi
     case $? in
-    0) start=$place ;;
+    0)
+        start=$place
+        remove_old
+        ;;
     3)
-        cause='the programs in dist/ do not run on this machine'
+        cause=$(tell_no_run)
         return 1
         ;;
     *) return 2 ;;
