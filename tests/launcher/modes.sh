@@ -7,7 +7,7 @@
 # drawing characters, a hidden cursor.
 bad_modes='\033[4h\033[?6h\033[2;4r\033[?7l\033(0\033[?25l'
 
-# The sequences are those of host/terminal.c and host/kinds.c.
+# The sequences are those of host/terminal.c.
 check_modes() {
     start 8 50 "$recorder" f
     wait_for 50 test -e "$folder/record"
@@ -15,7 +15,7 @@ check_modes() {
     finish modes 7 50
     has 'modes, kept at the start' "$(written)" '^[7^[[?1s^[[?1036s^[[22;0t^[[?1049h'
     has 'modes, told at the start' "$(written)" '^[[?1049h^[[?1l^[(B^O^[[4l^[[?6l^[[r^[[?7h^[[?25h^[[8l^[[1 k^[[?1036h'
-    has 'modes, told at the end' "$(written)" '^[[0m^[[?1r^[[?1036r^[[?25h^[[0 k^[[8h^[[23;0t^[[?1049l'
+    has 'modes, told at the end' "$(written)" '^[[0m^[[?1r^[[?1036r^[[?25h^[[0 k^[[8h^[Ptmux;^[^[[?1036r^[\^[[23;0t^[[?1049l'
 }
 
 # Whether the terminal reports presses and drags, and reports in numbers; 1 is on.
@@ -33,13 +33,14 @@ check_mouse_modes() {
     same 'modes, and no more at the end' "$(reports)" '0 0'
     finish 'modes, the mouse' 7 50
     has 'modes, the mouse: told at the start' "$(written)" '^[[?2004h^[[?1006h^[[?1002h'
-    has 'modes, the mouse: told at the end' "$(written)" '^[[?1002l^[[?1006l^[[?2004l'
+    has 'modes, the mouse: told at the end' "$(written)" '^[[?2004l^[[?1002l^[[?1006l'
     start 8 50 "$recorder" f
     wait_for 50 test -e "$folder/record"
     send_signal KILL ".*bin/bidi-edit"
     wait_for 50 is_over
     same 'modes, no reports after a kill' "$(reports)" '0 0'
-    finish 'modes, the host killed' 137 50
+    # the watcher says how to recover
+    finish 'modes, the host killed' 137 50 3
     start 8 50 "$recorder" --no-mouse f
     wait_for 50 test -e "$folder/record"
     same 'modes, --no-mouse' "$(reports)" '0 0'
@@ -147,44 +148,6 @@ check_title() {
     setup=''
 }
 
-# The terminal around tmux, which the host tells to stop reordering (8l) and to go on with it (8h): a pane `outer` of the same
-# tmux server, in which a client shows the session `keep`, the one that the callers of these parts hold open.
-check_outer() {
-    start 8 50 "$recorder" f
-    type_keys C-q
-    finish 'outer, none' 7 50
-    start_outer
-    start 8 50 "$recorder" f
-    wait_for 50 outer_has '^[[8l'
-    outer_has '^[[8l'
-    report 'outer, told' $? "$(cat -v "$folder/outer")"
-    outer_has '^[[8h'
-    same 'outer, not yet at the end' $? 1
-    type_keys C-q
-    wait_for 50 has_ended
-    wait_for 20 outer_has '^[[8h'
-    report 'outer, told at the end' $? "$(cat -v "$folder/outer")"
-    terminal kill-session -t person
-    terminal kill-session -t outer
-}
-
-# Opens that pane and records what the client in it writes. The client starts half a second later, when all of it is recorded.
-start_outer() {
-    rm -f "$folder/outer"
-    terminal new-session -d -s outer -x 60 -y 12 "sleep 0.5; env -u TMUX tmux -u -L $socket attach -t keep"
-    terminal pipe-pane -t outer "cat >'$folder/outer'"
-    wait_for 50 outer_is_attached
-}
-
-outer_is_attached() {
-    [ -n "$(terminal list-clients)" ]
-}
-
-# Whether that terminal got these bytes, with escapes as ^[.
-outer_has() { # BYTES
-    cat -v "$folder/outer" | grep -q -F "$1"
-}
-
 check_terminal_modes() {
     if asked modes; then
         check_modes
@@ -196,5 +159,4 @@ check_terminal_modes() {
     ! asked nonblock || check_no_wait
     ! asked controlling || check_redirections
     ! asked title || check_title
-    ! asked outer || check_outer
 }

@@ -157,7 +157,7 @@ processes() {
 }
 
 # Waits for the editor's end, TENTHS of a second at most, checks its status and that all is as before, and closes the terminal.
-finish() { # NAME STATUS TENTHS
+finish() { # NAME STATUS TENTHS [ROWS]
     wait_for "$3" has_ended || report "$1, its end" 1 'it goes on'
     same "$1, status" "$(cat "$folder/status" 2>/dev/null)" "$2"
     same "$1, the terminal's settings" "$(cat "$folder/after" 2>/dev/null)" "$(cat "$folder/before")"
@@ -168,8 +168,8 @@ finish() { # NAME STATUS TENTHS
         terminal kill-session -t person
         return
     fi
-    # one row alone, which `start` wrote; then the modes as a fresh terminal has them
-    same "$1, the screen before" "$(terminal capture-pane -p -t person | grep -c .) $(terminal capture-pane -p -t person | head -n 1)" '1 as before'
+    # one row alone, which `start` wrote, or so many with what is told behind it; then the modes as a fresh terminal has them
+    same "$1, the screen before" "$(terminal capture-pane -p -t person | grep -c .) $(terminal capture-pane -p -t person | head -n 1)" "${4:-1} as before"
     same "$1, the terminal's modes" "$(modes_of person)" "0 0 0 $((rows - 1)) 1 1"
     type_keys -l 'a line'
     type_keys Enter
