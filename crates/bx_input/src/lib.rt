@@ -11,6 +11,7 @@
 #![tactic(auto)]
 
 mod after;
+mod after_csi;
 mod beginning;
 mod filter;
 mod filter_state;
