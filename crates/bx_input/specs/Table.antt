@@ -203,19 +203,20 @@ text_end_keys =
 abbrev selecting_rows : List Row
 selecting_rows = shifted_keys ++ (shifted_rxvt_keys ++ (shifted_st_keys ++ shifted_control_keys))
 
+-- the rows whose keys move or select
+abbrev pub move_rows : List Row
+move_rows = row_keys ++ (application_keys ++ (rxvt_keys ++ (selecting_rows ++ (word_keys ++ (text_end_keys ++ step_keys)))))
+
+-- the other rows whose sequence begins with ESC
+abbrev pub command_rows : List Row
+command_rows =
+    delete_keys
+    ++ (delete_word_keys
+    ++ (erase_word_keys ++ (direction_keys ++ (keypad_digits ++ (help_keys ++ (find_keys ++ (search_keys ++ (replace_keys ++ quit_keys))))))))
+
 -- the rows whose sequence begins with ESC
 abbrev pub escape_rows : List Row
-escape_rows =
-    row_keys
-    ++ (application_keys
-    ++ (rxvt_keys
-    ++ (selecting_rows
-    ++ (delete_keys
-    ++ (delete_word_keys
-    ++ (erase_word_keys
-    ++ (direction_keys
-    ++ (keypad_digits
-    ++ (help_keys ++ (find_keys ++ (replace_keys ++ (word_keys ++ (text_end_keys ++ (search_keys ++ (quit_keys ++ step_keys)))))))))))))))
+escape_rows = move_rows ++ command_rows
 
 -- the rows whose sequence is one control byte: Ctrl with @ (or the space bar), B, C, F, G, K, R, T, V, W, X, Y, Z, the
 -- backslash and the slash, which is on the key Q of a Hebrew layout, and Enter

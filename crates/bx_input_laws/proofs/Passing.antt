@@ -14,7 +14,7 @@ use Rattle.bx_bytes.specs.declared.fate.Fate.TheVariants.{Waits, Ends, Breaks}
 use Rattle.bx_input.specs.Filter as filter
 use Rattle.bx_input.specs.Table as table
 use Rattle.bx_input.specs.Known.{fate}
-use Rattle.bx_input.specs.Table.{Row, escape_rows, control_rows, erase_rows, byte_rows, sequences}
+use Rattle.bx_input.specs.Table.{Row, move_rows, command_rows, escape_rows, control_rows, erase_rows, byte_rows, sequences}
 use Rattle.bx_input.specs.Filter.{State, Outside, Step, step_to, with_front, ended, start, at_end, apart_from, has_two_escapes}
 use Rattle.bx_input_laws.specs.Laws.{are_escapes, became, longer_by, BecomesRow, HasNone, HasNoReport, is_report, OthersPass}
 use Rattle.bx_input_laws.proofs.Firsts.{lacks_after_first, lacks_behind}
@@ -206,8 +206,18 @@ module _ (by_delete : Bool) where
   all_rows [] h = tt
   all_rows (r ∷ rs) h = (row_becomes r h.0, all_rows rs h.1)
 
+  all_joined : (P : Row → Type 0) (rs more : List Row) → AllByRecursion P rs → AllByRecursion P more → AllByRecursion P (rs ++ more)
+  all_joined P [] more h g = g
+  all_joined P (r ∷ rs) more h g = (h.0, all_joined P rs more h.1 g)
+
+  are_move_rows : AllByRecursion IsRow move_rows
+  are_move_rows = search rules
+
+  are_command_rows : AllByRecursion IsRow command_rows
+  are_command_rows = search rules
+
   are_rows : AllByRecursion IsRow escape_rows
-  are_rows = search rules
+  are_rows = all_joined IsRow move_rows command_rows are_move_rows are_command_rows
 
   -- ---- the rows of one byte
 
@@ -280,25 +290,31 @@ module _ (by_delete : Bool) where
   are_control_rows : AllByRecursion IsControlRow control_rows
   are_control_rows = (
     control_row _ 0x00 refl refl refl refl refl refl,
-    (control_row _ 0x02 refl refl refl refl refl refl, (
-      control_row _ 0x03 refl refl refl refl refl refl,
-      (control_row _ 0x06 refl refl refl refl refl refl, (
-        control_row _ 0x07 refl refl refl refl refl refl,
+    (
+      control_row _ 0x02 refl refl refl refl refl refl,
+      (
+        control_row _ 0x03 refl refl refl refl refl refl,
         (
-          control_row _ 0x0B refl refl refl refl refl refl,
+          control_row _ 0x06 refl refl refl refl refl refl,
           (
-            control_row _ 0x12 refl refl refl refl refl refl,
+            control_row _ 0x07 refl refl refl refl refl refl,
             (
-              control_row _ 0x14 refl refl refl refl refl refl,
+              control_row _ 0x0B refl refl refl refl refl refl,
               (
-                control_row _ 0x16 refl refl refl refl refl refl,
+                control_row _ 0x12 refl refl refl refl refl refl,
                 (
-                  control_row _ 0x17 refl refl refl refl refl refl,
+                  control_row _ 0x14 refl refl refl refl refl refl,
                   (
-                    control_row _ 0x18 refl refl refl refl refl refl,
+                    control_row _ 0x16 refl refl refl refl refl refl,
                     (
-                      control_row _ 0x19 refl refl refl refl refl refl,
-                      (control_row _ 0x1A refl refl refl refl refl refl, (control_row _ 0x1C refl refl refl refl refl refl, (control_row _ 0x1F refl refl refl refl refl refl, (control_row _ 0x0D refl refl refl refl refl refl, tt)))),
+                      control_row _ 0x17 refl refl refl refl refl refl,
+                      (
+                        control_row _ 0x18 refl refl refl refl refl refl,
+                        (
+                          control_row _ 0x19 refl refl refl refl refl refl,
+                          (control_row _ 0x1A refl refl refl refl refl refl, (control_row _ 0x1C refl refl refl refl refl refl, (control_row _ 0x1F refl refl refl refl refl refl, (control_row _ 0x0D refl refl refl refl refl refl, tt)))),
+                        ),
+                      ),
                     ),
                   ),
                 ),
@@ -306,8 +322,8 @@ module _ (by_delete : Bool) where
             ),
           ),
         ),
-      )),
-    )),
+      ),
+    ),
   )
 
   -- a byte that a sequence has as its first, or behind an ESC alone
@@ -384,10 +400,6 @@ module _ (by_delete : Bool) where
     erase_becomes _ (erase_row _ _ 0x7F refl refl refl refl refl refl refl),
     (erase_becomes _ (erase_row _ _ 0x08 refl refl refl refl refl refl refl), tt),
   )
-
-  all_joined : (P : Row → Type 0) (rs more : List Row) → AllByRecursion P rs → AllByRecursion P more → AllByRecursion P (rs ++ more)
-  all_joined P [] more h g = g
-  all_joined P (r ∷ rs) more h g = (h.0, all_joined P rs more h.1 g)
 
   pub rows_become : AllByRecursion (BecomesRow by_delete) rows
   rows_become =
