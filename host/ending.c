@@ -232,6 +232,7 @@ static bool leave_text(struct edit *edit) {
     /* FILE as it is now */
     if (edit->file.text >= 0) close(edit->file.text);
     edit->file.text = open_now(edit, &look);
+    leave_out_mark(&edit->file.text);
     edit->file.stamp.is_there = is_there_now(edit);
     enum replayed found = replay(edit, session, &text, within(end_signal ? REPLAY_BY_SIGNAL_MS : REPLAY_MS));
     if (text < 0) return false;
