@@ -61,6 +61,7 @@ static enum notice cause_of_loss(const struct session *session) {
 static void note_saved(struct edit *edit) {
     struct file_stamp stamp;
     edit->was_saved = true;
+    session_note_saved(&edit->session);
     if (!saver_stamp(&edit->saver, &stamp, &edit->target.id)) return;
     edit->target.is_there = stamp.is_there;
     session_note_file(&edit->session, &edit->target);

@@ -107,9 +107,10 @@ static int put_about(struct session *session) {
     static char words[MOST_ABOUT];
     size_t size = about_write(&session->about, words, sizeof words);
     int error = size > 0 ? put_file(session, ABOUT_NAME, words, size) : ENAMETOOLONG;
-    if (!error) session->is_about_due = session->is_hasty;
-    if (!error) session->about.is_old = false;
-    return error;
+    if (error) return error;
+    session->is_about_due = session->is_hasty;
+    session->about.is_old = false;
+    return 0;
 }
 
 bool session_has_mark(const struct session *session, enum mark mark) {
@@ -404,6 +405,12 @@ void session_note_file(struct session *session, const struct target *target) {
     }
     if (has_moved) put_path(about->path, "%s", target->path);
     if (is_new || has_moved) session->is_about_due = true;
+}
+
+void session_note_saved(struct session *session) {
+    off_t size = session_journal_size(session);
+    session->about.saved = size > 0 ? (uint64_t)size : 0;
+    session->is_about_due = true;
 }
 
 /* ---- a session that goes on */

@@ -128,8 +128,9 @@ bool session_is_due(const struct session *session);
 /* At the end, does all that is due; without syncs if it is hasty. Returns whether the session can be recovered. */
 bool session_settle(struct session *session, bool is_hasty);
 
-/* Notes which file FILE is now, and FILE's path: after each save, and if its folder was renamed. */
+/* Notes which file FILE is now, and FILE's path: after each save, and if its folder was renamed. Notes that all keys so far are saved. */
 void session_note_file(struct session *session, const struct target *target);
+void session_note_saved(struct session *session);
 
 /* Locks a session, trying for a second at most, reads its facts again, and opens its text and journal. HELD: another process has it. GONE:
  * it was removed. */

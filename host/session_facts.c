@@ -163,10 +163,11 @@ bool session_has_keys(const struct session *session) {
     return session_journal_size(session) > LONGEST_WITHOUT_KEYS || !count_journal(session, &count) || count.keys > 0;
 }
 
-/* Whether the journal is there, with all that was on the disk. */
+/* Whether the journal is there, with all that was on the disk, or was emptied because all was saved. */
 static bool has_whole_journal(const struct session *session) {
+    const struct about *about = &session->about;
     off_t size = session_journal_size(session);
-    return size >= 0 && (uint64_t)size >= session->about.journal.size;
+    return size >= 0 && ((uint64_t)size >= about->journal.size || (size == 0 && about->journal.size <= about->saved));
 }
 
 bool session_has_something(const struct session *session) {

@@ -214,6 +214,7 @@ size_t about_write(const struct about *about, char *words, size_t room) {
     if (about->has_text) put_sum(&writing, "text", &about->text);
     if (about->has_known) put_sum(&writing, "known", &about->known);
     put_sum(&writing, "journal", &about->journal);
+    put(&writing, "saved %" PRIu64 "\n", about->saved);
     sum_begin(&all);
     sum_more(&all, words, writing.length);
     put(&writing, "sum %016" PRIx64 "\n", all.hash);
@@ -263,6 +264,7 @@ static void read_line(struct about *about, const char *line) {
     else if (take_key(&line, "marks")) about->marks = marks_of(line);
     else if (take_key(&line, "text")) about->has_text = sum_of(line, &about->text);
     else if (take_key(&line, "known")) about->has_known = sum_of(line, &about->known);
+    else if (take_key(&line, "saved") && !take_number(&line, UINT64_MAX, &about->saved)) about->saved = 0;
     else if (take_key(&line, "journal") && !sum_of(line, &about->journal)) sum_begin(&about->journal);
 }
 
@@ -401,10 +403,12 @@ bool is_as_left(const struct step *step, const struct step *now) {
 static void count_byte(struct key_count *count, unsigned char byte) {
     enum { SAVE = 0x13, ESCAPE = 0x1b };
     if (count->is_in_sequence) {
-        bool is_final = (byte >= 'A' && byte <= 'Z') || (byte >= 'a' && byte <= 'z') || byte == '~', is_mark = byte == '>' && !count->is_notice;
+        bool is_final = (byte >= 'A' && byte <= 'Z') || (byte >= 'a' && byte <= 'z') || byte == '~';
         if ((byte >= '0' && byte <= '9') || byte == ';') return;
-        if (is_mark) count->is_notice = true;
-        if (is_mark) return;
+        if (byte == '>' && !count->is_notice) {
+            count->is_notice = true;
+            return;
+        }
         count->is_in_sequence = false;
         /* a size, and the Save right before it, and a notice are no keys */
         if (byte == 't' && !count->is_notice) count->keys -= count->is_saved ? 2 : 1;

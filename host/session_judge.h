@@ -90,6 +90,8 @@ struct about {
      * FILE has all the same. */
     bool has_text, has_known;
     struct sum text, journal, known;
+    /* The journal's size at the last save: a program that ends with all saved empties the journal. */
+    uint64_t saved;
     /* A byte of `about` itself has changed; it is of version 0.4.0, and has no sums. */
     bool is_damaged, is_old;
 };

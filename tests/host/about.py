@@ -1,4 +1,9 @@
-"""The file `about` of a session: lines of a key and words, and the sum of all in the last one. A sum is FNV-1a, in 64 bits."""
+#!/usr/bin/env python3
+"""about.py FOLDER KEY WORDS: changes a fact of a session, with the right sum. about.py FOLDER FILE: reads a new content of its file `text`
+or `journal` from standard input, as if the editor had written it.
+
+The file `about` of a session's folder has lines of a key and words, and in the last one the sum of all. A sum is FNV-1a, in 64 bits."""
+import sys
 
 
 def sum_of(bytes_):
@@ -29,3 +34,10 @@ def put_part(folder, name, bytes_):
         file.write(bytes_)
     if name in ('text', 'journal'):
         put_fact(folder, name, f'{len(bytes_)} {sum_of(bytes_):016x}')
+
+
+if __name__ == '__main__':
+    if len(sys.argv) == 4:
+        put_fact(*sys.argv[1:])
+    else:
+        put_part(sys.argv[1], sys.argv[2], sys.stdin.buffer.read())

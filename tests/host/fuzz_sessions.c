@@ -45,9 +45,9 @@ static void try_words(const char *text) {
     }
     require((mode_of(text) & ~0777U) == 0);
     static struct about about;
-    static char written[MOST_ABOUT];
     char *lines = strdup(text);
     if (lines && about_read(&about, lines, strlen(lines))) {
+        static char written[MOST_ABOUT];
         size_t size = about_write(&about, written, sizeof written);
         require(size > 0 && about_read(&about, written, size) && !about.is_damaged);
     }

@@ -323,6 +323,7 @@ static void check_facts(void) {
     about.text = (struct sum){5, 0x123};
     about.known = (struct sum){6, UINT64_MAX};
     about.journal = (struct sum){7, 1};
+    about.saved = 8;
     size_t size = about_write(&about, words, sizeof words);
     check(about_write(&about, twice, size) == 0, "facts", "without room");
     memcpy(changed, words, size);
@@ -331,6 +332,7 @@ static void check_facts(void) {
     check(is_surely_same_id(&again.id, &about.id) && again.mode == 0640 && again.marks == about.marks, "facts", "file, mode and marks");
     check(again.begin.line == 7 && again.process.number == 7 && strcmp(again.versions, about.versions) == 0, "facts", "begin, process, versions");
     check(is_same_sum(&again.text, &about.text) && is_same_sum(&again.known, &about.known) && is_same_sum(&again.journal, &about.journal), "facts", "sums");
+    check(again.saved == 8, "facts", "saved");
     check(about_write(&again, twice, sizeof twice) == size && memcmp(words, twice, size) == 0, "facts", "written again");
     int unnoticed = 0;
     for (size_t at = 0; at < size; at++) {

@@ -146,6 +146,23 @@ static void check_damage(void) {
     }
 }
 
+/* A journal that was emptied when all was saved is no damage, and the session has nothing; one that lost later keys is damaged. */
+static void check_saved(void) {
+    for (int later = 0; later < 2; later++) {
+        struct sessions sessions;
+        struct session session;
+        struct target target = {.folder = -1};
+        begin_filled(&session, &sessions, &target, "ab");
+        session_note_saved(&session);
+        if (later) write_bytes(session.journal, "c", 1);
+        check(mind(&session) == KEEPS, "saved: kept");
+        session_close(&session);
+        run(": >\"$(echo state/bidi_edit/2*)/journal\"");
+        check_kinds(&sessions, &target, later ? "u" : "", later ? "saved: later keys are missing" : "saved: nothing is left");
+        leave(&session, &sessions);
+    }
+}
+
 /* The sum of the journal goes on with it, and begins anew where the program empties it. */
 static void check_journal_sums(void) {
     static const char *const keys[] = {"", "a", "bc", "d"};
@@ -258,5 +275,6 @@ void check_parts(void) {
     check_removed();
     check_damage();
     check_journal_sums();
+    check_saved();
     check_room();
 }

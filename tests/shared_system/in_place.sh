@@ -140,7 +140,7 @@ cut_off_save() { # CALLS
 }
 
 is_unlocked() {
-    flock -n "$(session_of_check)/lock" true
+    flock -n "$(session_of_check)" true
 }
 
 # Checks the next start's message about an interrupted save, and that FILE is complete. COUNT is how often it says that the text
@@ -215,7 +215,7 @@ check_written_since() {
 # A session of another machine may still be saving there.
 check_cut_off_elsewhere() {
     cut_off_save write,pwrite64,writev
-    echo '1 elsewhere 11111111-1111' | as_user tee "$(session_of_check)/process" >/dev/null
+    python3 -B "$top/tests/host/about.py" "$(session_of_check)" process '1 elsewhere 11111111-1111'
     open_editor first '' --recover note
     expect_in first 'in place, cut off on another host: it is asked about' 'Has it ended'
     same 'in place, cut off on another host: FILE before the answer' "$(stat -c %s note)" 0

@@ -26,11 +26,11 @@ check_other_namespace() {
     rm -f note
 }
 
-# The session's file `process` names another machine, where locks and processes cannot be seen.
+# The session's facts name another machine, where locks and processes cannot be seen.
 check_other_host() {
     leave_session note
     session=$(session_of_check)
-    echo '1 elsewhere 11111111-1111' | as_user tee "$session/process" >/dev/null
+    python3 -B "$top/tests/host/about.py" "$session" process '1 elsewhere 11111111-1111'
     open_editor second '' note
     expect_in second 'liveness, on another host' 'may be open in another window of yours (process 1 on elsewhere'
     say_in second no

@@ -59,15 +59,16 @@ is_locked() { # FILE
     ! flock -n "$1" true
 }
 
-# What is left of one then: no file in TMPDIR, and in the state folder a session that none asks about. A later start sweeps it if
-# it has no text yet, but not one that is locked, nor another user's.
+# What is left of one then: no file in TMPDIR, and in the state folder a session. A later start sweeps it if it has no facts and no keys,
+# but not one that is locked, nor another user's.
 check_left_sessions() {
     rm -rf "$folder/state"
     kill_whole_editor
     same 'orphans, files of an editor that was killed as a whole' "$(ls -A "$folder/private")" ''
     left=$(session_of_check)
     same 'orphans, one session is left' "$(find "$folder/state/bidi_edit" -mindepth 1 -maxdepth 1 | wc -l)" 1
-    as_user rm -f "$left/path"
+    as_user rm -f "$left/about"
+    as_user truncate -s 0 "$left/journal"
     locked=$folder/state/bidi_edit/20200101000000.locked others=$folder/state/bidi_edit/20200101000000.others
     as_user mkdir "$locked" "$others"
     as_user touch "$locked/lock" "$others/lock"

@@ -7,7 +7,7 @@
 spoil_session() { # ANSWER
     leave_session note
     session=$(session_of_check)
-    printf 'a\377\n' | as_user tee "$session/text" >/dev/null
+    printf 'a\377\n' | python3 -B "$top/tests/host/about.py" "$session" text
     open_editor first '' note
     wait_for 60 shows_in first '[d]elete for good'
     say_in first recover

@@ -2,8 +2,8 @@
 # shellcheck disable=SC2034,SC2154 # variables shared with other parts
 # Sessions of another version of the editor or its tables: recovered from the snapshot, or with a warning.
 
-# Kills the program, so that the host leaves the session with its text, `snapshot`, and replaces its `versions` by those of
-# another editor. Sets `session`, its folder.
+# Kills the program, so that the host leaves the session with its text, `snapshot`, and has its facts name another editor. Sets
+# `session`, its folder.
 leave_other_version() {
     rm -rf "$folder/state" note*
     printf 'ab\n' | as_user tee note >/dev/null
@@ -15,7 +15,7 @@ leave_other_version() {
     wait_for 60 shows_in first status
     session=$(session_of_check)
     same 'versions, the text where a session was left' "$(cat "$session/snapshot")" xyab
-    echo 'bidi-edit of another time' | as_user tee "$session/versions" >/dev/null
+    python3 -B "$top/tests/host/about.py" "$session" versions 'bidi-edit of another time'
 }
 
 # The text is recovered without its keys, as one that is not saved.
@@ -48,7 +48,7 @@ check_snapshot() {
 
 # A recovered text is kept even if no key is typed.
 check_untouched() {
-    as_user truncate -s 0 "$(session_of_check)/journal"
+    python3 -B "$top/tests/host/about.py" "$(session_of_check)" journal </dev/null
     as_user "$host" --recover >"$folder/output" 2>&1 </dev/null
     has 'versions, without a key: it is listed' "$(cat "$folder/output")" 'keys: 0'
     open_editor first '' note
