@@ -40,6 +40,7 @@ check_terminal() { # KIND
     fi
     case $1 in
     qterminal)
+        check_hint "$1"
         check_changes "$1"
         # which has 60 columns and 10 rows
         xdotool windowsize "$window" 618 268
@@ -50,6 +51,7 @@ check_terminal() { # KIND
     alacritty_screen) check_mouse_in_screen "$1" ;;
     foot | *_set) check_mouse "$1" ;;
     *)
+        [ "$1" != kitty ] || check_hint "$1"
         check_rows "$1"
         check_joined "$1"
         check_mark "$1"
@@ -361,4 +363,16 @@ check_title() { # KIND
     leave_editor "$1, title"
     wait_for 50 has_title '*before*'
     report "$1, title at the end" $? "$(title)"
+}
+
+# The first start in a terminal that mirrors words, unless it is set not to, says so in the last row, until a key is pressed.
+check_hint() { # KIND
+    open_editor text "$1-hint"
+    press Right Left
+    take_picture "$1-no-hint"
+    other_picture "$1, the hint" "$1-hint" "$1-no-hint"
+    leave_editor "$1, the hint"
+    open_editor text "$1-later"
+    same_picture "$1, no hint later" "$1-later" "$1-no-hint"
+    leave_editor "$1, no hint later"
 }
