@@ -22,7 +22,10 @@ top=$(cd "$(dirname "$0")/.." && pwd)
 find_programs
 # shellcheck disable=SC2034
 wanted="$*"
-folder=$(mktemp -d)
+folder=$(mktemp -d) || exit 1
+# shellcheck source=tests/own_state.sh
+. "$top/tests/own_state.sh"
+own_state "$folder"
 export XDG_STATE_HOME="$folder/state"
 socket="bx$$"
 passed=0 failed=0 skipped=0

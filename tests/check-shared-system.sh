@@ -28,6 +28,9 @@ passed=0 failed=0 skipped=0
 # the folder of all rounds, and the places that are to be unmounted at the end
 room=$(mktemp -d) || exit 1
 mounted=''
+# shellcheck source=tests/own_state.sh
+. "$top/tests/own_state.sh"
+own_state "$room"
 chmod 755 "$room"
 socket=bidi-edit-$$
 clean_up() {
