@@ -43,7 +43,7 @@ trap 'exit 1' HUP INT TERM
 
 # Settings of a check for its own sessions; see tests/launcher/person.sh.
 # shellcheck disable=SC2034
-tables='' setup='' cleanup='' redirection='' is_flooded=''
+tables='' setup='' cleanup='' redirection='' rows_told='' is_flooded=''
 # shellcheck source=tests/launcher/person.sh
 . "$top/tests/launcher/person.sh"
 # shellcheck source=tests/launcher/recorder.sh

@@ -8,3 +8,12 @@ own_state() { # FOLDER
     chmod 711 "$1" && mkdir -m 711 "$1/home" "$1/temporary" || exit 1
     export HOME="$1/home" TMPDIR="$1/temporary"
 }
+
+# As root, sets `another_user` to the words that run a command as a user who is in no group, and fails if that user cannot read all of
+# these paths, as in a checkout in root's home. Who is not root is such a user already.
+as_another_user() { # PATH..
+    another_user=''
+    [ "$(id -u)" = 0 ] || return 0
+    another_user='setpriv --reuid 65534 --regid 65534 --clear-groups'
+    for path; do $another_user test -r "$path" 2>/dev/null || return 1; done
+}
