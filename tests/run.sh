@@ -19,7 +19,7 @@ cd "$top" || exit 1
 # Lists the parts, the longest first: a name, the seconds after which it counts as hanging, and the script with its words.
 parts() {
     cat <<'TEXT'
-terminal 480 check-launcher.sh words tables size access refused opening checks printing kill leftovers modes nonblock controlling title
+terminal 480 check-launcher.sh words tables size access refused opening checks printing kill leftovers modes nonblock controlling title outer
 editing 480 check-launcher.sh edit breaks quit long end file line stop install caller paste input keys joining
 saves 480 check-saves.sh --quick
 host 480 check-host.sh

@@ -7,7 +7,7 @@
 # drawing characters, a hidden cursor.
 bad_modes='\033[4h\033[?6h\033[2;4r\033[?7l\033(0\033[?25l'
 
-# The sequences are those of host/terminal.c.
+# The sequences are those of host/terminal.c and host/kinds.c.
 check_modes() {
     start 8 50 "$recorder" f
     wait_for 50 test -e "$folder/record"
@@ -33,14 +33,17 @@ check_mouse_modes() {
     same 'modes, and no more at the end' "$(reports)" '0 0'
     finish 'modes, the mouse' 7 50
     has 'modes, the mouse: told at the start' "$(written)" '^[[?2004h^[[?1006h^[[?1002h'
-    has 'modes, the mouse: told at the end' "$(written)" '^[[?2004l^[[?1002l^[[?1006l'
+    has 'modes, the mouse: told at the end' "$(written)" '^[[?1002l^[[?1006l'
     start 8 50 "$recorder" f
     wait_for 50 test -e "$folder/record"
+    # the watcher restores the terminal, while the shell goes on
+    cleanup="until [ \"\$(stty -g)\" = \"\$(cat '$folder/before')\" ]; do sleep 0.1; done"
+    rows_told='bidi-edit was killed: bidi-edit --recover f restores unsaved text'
     send_signal KILL ".*bin/bidi-edit"
-    wait_for 50 is_over
+    wait_for 50 shows 'was killed'
     same 'modes, no reports after a kill' "$(reports)" '0 0'
-    # the watcher says how to recover
-    finish 'modes, the host killed' 137 50 3
+    finish 'modes, the host killed' 137 50
+    cleanup='' rows_told=''
     start 8 50 "$recorder" --no-mouse f
     wait_for 50 test -e "$folder/record"
     same 'modes, --no-mouse' "$(reports)" '0 0'
@@ -148,6 +151,38 @@ check_title() {
     setup=''
 }
 
+# The host writes nothing to the terminal around tmux, so that it tells it neither to stop reordering (8l) nor to go on with it (8h): a
+# pane `outer` of the same tmux server, in which a client shows the session `keep`, the one that the callers of these parts hold open.
+check_outer() {
+    start_outer
+    start 8 50 "$recorder" f
+    wait_for 50 test -e "$folder/record"
+    type_keys C-q
+    finish 'outer' 7 50
+    for mode in 8l 8h; do
+        outer_has "^[[$mode"
+        same "outer, nothing is told: $mode" $? 1
+    done
+    terminal kill-session -t outer
+}
+
+# Opens that pane and records what the client in it writes. The client starts half a second later, when all of it is recorded.
+start_outer() {
+    rm -f "$folder/outer"
+    terminal new-session -d -s outer -x 60 -y 12 "sleep 0.5; env -u TMUX tmux -u -L $socket attach -t keep"
+    terminal pipe-pane -t outer "cat >'$folder/outer'"
+    wait_for 50 outer_is_attached
+}
+
+outer_is_attached() {
+    [ -n "$(terminal list-clients)" ]
+}
+
+# Whether that terminal got these bytes, with escapes as ^[.
+outer_has() { # BYTES
+    cat -v "$folder/outer" | grep -q -F "$1"
+}
+
 check_terminal_modes() {
     if asked modes; then
         check_modes
@@ -159,4 +194,5 @@ check_terminal_modes() {
     ! asked nonblock || check_no_wait
     ! asked controlling || check_redirections
     ! asked title || check_title
+    ! asked outer || check_outer
 }

@@ -9,6 +9,7 @@
 #   wanted    the beginnings of the names of the checks to run, with blanks between; empty for all
 #   tables    BIDI_EDIT_DATA of sessions; empty for none
 #   setup cleanup redirection as   parts of a session's script, see `start`; mostly empty
+#   rows_told   the rows that are on the screen after a session; mostly empty
 #   is_flooded   not empty: the host ends before it has read all that was pasted
 # The functions set `tty`, the device of the session's terminal, and `rows` and `cols`, its size at the start; a check that
 # changes the height sets `rows` for `finish`. They count in `passed`, `failed` and `skipped`. The session of tmux is `person`;
@@ -157,7 +158,7 @@ processes() {
 }
 
 # Waits for the editor's end, TENTHS of a second at most, checks its status and that all is as before, and closes the terminal.
-finish() { # NAME STATUS TENTHS [ROWS]
+finish() { # NAME STATUS TENTHS
     wait_for "$3" has_ended || report "$1, its end" 1 'it goes on'
     same "$1, status" "$(cat "$folder/status" 2>/dev/null)" "$2"
     same "$1, the terminal's settings" "$(cat "$folder/after" 2>/dev/null)" "$(cat "$folder/before")"
@@ -168,8 +169,9 @@ finish() { # NAME STATUS TENTHS [ROWS]
         terminal kill-session -t person
         return
     fi
-    # one row alone, which `start` wrote, or so many with what is told behind it; then the modes as a fresh terminal has them
-    same "$1, the screen before" "$(terminal capture-pane -p -t person | grep -c .) $(terminal capture-pane -p -t person | head -n 1)" "${4:-1} as before"
+    # what `start` wrote alone, and what is told; then the modes as a fresh terminal has them
+    same "$1, the screen before" "$(terminal capture-pane -p -J -t person | sed 's/ *$//' | grep .)" "as before${rows_told:+
+$rows_told}"
     same "$1, the terminal's modes" "$(modes_of person)" "0 0 0 $((rows - 1)) 1 1"
     type_keys -l 'a line'
     type_keys Enter
