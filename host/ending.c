@@ -228,6 +228,7 @@ static bool leave_text(struct edit *edit) {
     /* FILE as it is now */
     if (edit->file.text >= 0) close(edit->file.text);
     edit->file.text = open_now(&edit->file, &look);
+    leave_out_mark(&edit->file.text);
     edit->file.stamp.is_there = is_there_now(&edit->file);
     enum replayed found = replay(edit, session, &text, within(end_signal ? REPLAY_BY_SIGNAL_MS : REPLAY_MS));
     if (text < 0) return false;

@@ -7,6 +7,7 @@
 #include <linux/magic.h>
 #include <stdio.h>
 #include <string.h>
+#include <sys/mman.h>
 #include <sys/statvfs.h>
 #include <sys/vfs.h>
 #include <sys/xattr.h>
@@ -259,7 +260,21 @@ static enum cause find_and_open(struct file *file) {
     /* the plain file that was found, whatever has its name by now */
     file->text = open(link_of(file->itself).path, O_RDONLY | O_CLOEXEC | O_NOCTTY);
     file->is_unreadable = file->text < 0;
+    file->has_mark = leave_out_mark(&file->text);
     return CAUSE_NONE;
+}
+
+bool leave_out_mark(int *text) {
+    enum { LENGTH = sizeof BYTE_ORDER_MARK - 1 };
+    char front[LENGTH];
+    struct stat found;
+    if (*text < 0 || pread(*text, front, LENGTH, 0) != LENGTH || memcmp(front, BYTE_ORDER_MARK, LENGTH) != 0) return false;
+    if (fstat(*text, &found) != 0 || found.st_size > LARGEST_TEXT + LENGTH) return false;
+    int copy = memfd_create("bidi-edit", MFD_CLOEXEC);
+    bool is_copied = copy >= 0 && copy_file(*text, LENGTH, copy) == 0;
+    close_one(is_copied ? text : &copy);
+    if (is_copied) *text = copy;
+    return is_copied;
 }
 
 enum cause open_file(struct file *file, const char *typed) {
@@ -269,9 +284,24 @@ enum cause open_file(struct file *file, const char *typed) {
     return cause;
 }
 
+/* Opens the folder of a name that something else than a plain file has. */
+static enum cause open_name(struct file *file, const char *typed, enum cause other) {
+    char folder[PATH_MAX];
+    *file = (struct file){.typed = typed, .folder = -1, .itself = -1, .text = -1, .other = other};
+    if (!split(typed, folder, file->name) || !file->name[0]) return other;
+    file->folder = open_folder(AT_FDCWD, folder);
+    if (file->folder < 0) return other;
+    put_path(file->folder_name, "%s", folder);
+    name_paths(file);
+    find_id(file->folder, &file->folder_id);
+    return CAUSE_NONE;
+}
+
 enum cause open_lost_file(struct file *file, const char *typed) {
     char above[PATH_MAX], folder[PATH_MAX];
     enum cause cause = open_file(file, typed);
+    bool is_other = cause == CAUSE_FOLDER || cause == CAUSE_DEVICE || cause == CAUSE_BROKEN_LINK || cause == CAUSE_CIRCLE_OF_LINKS;
+    if (is_other) return open_name(file, typed, cause);
     if (!file->is_lost || !put_path(above, "%s", typed)) return cause;
     const char *rest = typed;
     while (file->folder < 0 && split(above, folder, file->name)) {

@@ -57,8 +57,8 @@ struct file {
     char name[PATH_MAX];
     /* FILE, opened by O_PATH, and opened for reading; -1 if FILE is not there, or cannot be read. */
     int itself, text;
-    /* FILE is there, and the user cannot read it. */
-    bool is_unreadable;
+    /* FILE is there, and the user cannot read it; it begins with a byte order mark, which `text`, a copy in memory, lacks. */
+    bool is_unreadable, has_mark;
     /* What was at the name at the opening. */
     struct file_stamp stamp;
     /* Of FILE, if it was there, and of its folder. */
@@ -71,6 +71,8 @@ struct file {
     char folder_name[PATH_MAX];
     /* A link was followed. */
     bool is_linked;
+    /* What has FILE's name by now cannot be edited, for this cause: only the name counts. */
+    enum cause other;
     /* The folder is gone: `folder` is the nearest one above that is there, and nothing can be saved. */
     bool is_lost;
 };
@@ -79,8 +81,13 @@ struct file {
  * device never waits. */
 enum cause open_file(struct file *file, const char *typed);
 
-/* The same, but FILE's folder may be gone. */
+/* The same for a session's FILE: its folder may be gone, and something else may be in its place. */
 enum cause open_lost_file(struct file *file, const char *typed);
+
+/* A byte order mark, which is no text. Puts a copy in memory without it in place of an open text that begins with it, and returns whether it
+ * does. Without memory, and where the text is too long, the mark stays. */
+#define BYTE_ORDER_MARK "\xef\xbb\xbf"
+bool leave_out_mark(int *text);
 
 /* Closes FILE once it was read and copied, but not its folder: some network disks rename a replaced file that is still open, and keep
  * it. close_file closes all. */

@@ -1,4 +1,4 @@
-/* Frames between the host and the program: how the host writes and queues them, and how it tells the program's frames from other text
+/* Frames between the host and the program: how the host writes them, and how it tells the program's frames from other text
  * on standard error. frames.h says what each call promises. */
 #include "frames.h"
 
@@ -6,14 +6,6 @@
 #include <string.h>
 #include <unistd.h>
 
-#include "util.h"
-
-/* Writes the letter and the length of a frame. */
-static void put_head(unsigned char *head, enum frame_letter letter, size_t length) {
-    head[0] = (unsigned char)letter;
-    head[1] = (unsigned char)(length >> 8);
-    head[2] = (unsigned char)length;
-}
 
 static size_t length_in(const unsigned char *head) {
     return (size_t)head[1] << 8 | head[2];
@@ -28,45 +20,13 @@ size_t find_frame(const unsigned char *held, size_t length, struct frame *frame)
 }
 
 bool write_frame(int file, enum frame_letter letter, const void *bytes, size_t length) {
-    unsigned char head[FRAME_HEAD];
-    if (length > FRAME_MOST) return false;
-    put_head(head, letter, length);
-    return write_bytes(file, head, sizeof head) == 0 && write_bytes(file, bytes, length) == 0;
-}
-
-size_t queue_length(const struct frame_queue *queue) {
-    return queue->end - queue->start;
-}
-
-bool put_frame(struct frame_queue *queue, enum frame_letter letter, const void *bytes, size_t length) {
-    bool is_size = letter == FRAME_SIZE;
-    /* of the last one nothing is written */
-    if (is_size && queue->has_size && queue->size_at >= queue->start) queue->end = queue->size_at;
-    size_t held = queue_length(queue);
-    if (length > QUEUE_ROOM - FRAME_HEAD || held > QUEUE_ROOM - FRAME_HEAD - length) return false;
-    if (QUEUE_ROOM - queue->end < FRAME_HEAD + length) {
-        memmove(queue->bytes, queue->bytes + queue->start, held);
-        queue->start = 0;
-        queue->end = held;
+    unsigned char frame[FRAME_HEAD + FRAME_PIECE_MOST] = {(unsigned char)letter, (unsigned char)(length >> 8), (unsigned char)length};
+    if (length > FRAME_PIECE_MOST) return false;
+    if (length > 0) memcpy(frame + FRAME_HEAD, bytes, length);
+    for (;;) {
+        ssize_t count = write(file, frame, FRAME_HEAD + length);
+        if (count >= 0 || errno != EINTR) return count > 0;
     }
-    queue->has_size = is_size;
-    queue->size_at = queue->end;
-    put_head(queue->bytes + queue->end, letter, length);
-    if (length > 0) memcpy(queue->bytes + queue->end + FRAME_HEAD, bytes, length);
-    queue->end += FRAME_HEAD + length;
-    return true;
-}
-
-bool write_queue(struct frame_queue *queue, int file) {
-    while (queue->start < queue->end) {
-        ssize_t count = write(file, queue->bytes + queue->start, queue_length(queue));
-        if (count < 0 && errno == EINTR) continue;
-        if (count < 0) return errno == EAGAIN;
-        queue->start += (size_t)count;
-    }
-    queue->start = queue->end = 0;
-    queue->has_size = false;
-    return true;
 }
 
 /* The length of the word at the start of these bytes; 0 if they are no word; more than `length` if the word is not complete yet. All words but

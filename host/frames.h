@@ -51,7 +51,7 @@ enum end_word { END_NONE, END_SAVED, END_UNSAVED, END_DROPPED, END_INPUT, END_OU
 
 /* FRAME_HEAD: the bytes of letter and length. WORD_MOST: the most bytes of a frame on standard error. They are so few that the
  * second byte of a frame is a control character, so no other text looks like a frame. */
-enum { FRAME_HEAD = 3, FRAME_MOST = 65535, WORD_MOST = 2047 };
+enum { FRAME_HEAD = 3, FRAME_MOST = 65535, FRAME_PIECE_MOST = 1024, WORD_MOST = 2047 };
 
 struct frame {
     char letter;
@@ -62,25 +62,9 @@ struct frame {
 /* Gives the frame at the start of these bytes. Returns its length including its head, or 0 if it is not complete. */
 size_t find_frame(const unsigned char *held, size_t length, struct frame *frame);
 
-/* Writes one frame to a file that blocks. Returns false at a fault. */
+/* Writes one frame of at most FRAME_PIECE_MOST bytes to a pipe: all of it, or, where the pipe does not block and has no room, nothing. Returns false
+ * if it was not written; errno is EAGAIN without room. */
 bool write_frame(int file, enum frame_letter letter, const void *bytes, size_t length);
-
-/* Frames that wait to be written to a pipe that does not block. If `has_size`, the last one, at `size_at`, is a size. */
-enum { QUEUE_ROOM = 16384 };
-struct frame_queue {
-    unsigned char bytes[QUEUE_ROOM];
-    size_t start, end, size_at;
-    bool has_size;
-};
-
-/* Appends a frame. If it and the last frame are sizes, it replaces that one. Returns false, and appends nothing, if there is no room. */
-bool put_frame(struct frame_queue *queue, enum frame_letter letter, const void *bytes, size_t length);
-
-/* The bytes that wait. */
-size_t queue_length(const struct frame_queue *queue);
-
-/* Writes as much as the pipe takes. Returns false if nobody reads the pipe any more. */
-bool write_queue(struct frame_queue *queue, int file);
 
 /* Reads the program's standard error: frames, which are called words, and other text, such as a crash message, of which the first bytes
  * are kept as `foreign`. */

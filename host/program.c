@@ -63,13 +63,13 @@ void make_words(struct words *words, const struct run *run, const struct pipes *
  * SIGXFSZ, so that a write beyond the limit of a file's size fails and does not kill it. A fault goes to the pipe of standard error, and
  * the host shows it at its end (tell_foreign). */
 static _Noreturn void become(const struct run *run, char *const *words, const int standard[3]) {
-    signal(SIGXFSZ, SIG_IGN);
     for (int number = 0; number < 3; number++)
         if (dup2(standard[number], number) < 0) _exit(126);
     for (size_t i = 0; i < run->handed_count; i++)
         if (run->handed[i] >= 0) fcntl(run->handed[i], F_SETFD, 0);
     umask(umask(0) | (mode_t)run->mask);
     give_back_signals();
+    signal(SIGXFSZ, SIG_IGN);
     execv(words[0], words);
     dprintf(STDERR_FILENO, "bidi-edit: %s cannot be started: %s\n", words[0], strerror(errno));
     _exit(127);

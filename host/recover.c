@@ -282,6 +282,11 @@ static int recover_found(struct edit *edit, struct found *found) {
 int recover_session(struct edit *edit) {
     struct found found;
     int status = find_file(edit, edit->call->file, true);
+    if (status == GO_ON && edit->file.other) {
+        const char *why = file_message(&edit->file, edit->file.other, 0);
+        warn("%s; to store the text of a session: bidi-edit --recover --to OTHER %s", why, shown(edit->file.typed));
+        return STATUS_FAULT;
+    }
     if (status == GO_ON && !mend_file(edit)) status = STATUS_FAULT;
     if (status != GO_ON) return status;
     do {

@@ -17,7 +17,6 @@
 #include "util.h"
 
 /* Milliseconds.
- * HAND_ON_MS: when a session is to end, typed bytes are still handed to the program for so long.
  * DEATH_MS: how long to wait for a killed program to end.
  * RESTORE_MS, RESTORE_BY_SIGNAL_MS: how long the terminal may take to accept what restores it; after a signal.
  * IDLE_MS: if nothing follows typed bytes for so long, a key is complete.
@@ -26,7 +25,6 @@
  * STOP_MS: how long the terminal may take to be restored before the host stops.
  * LATE_MS: after so long without an answer from the program, the user is told what is waited for. */
 enum {
-    HAND_ON_MS = 500,
     DEATH_MS = 1000,
     RESTORE_MS = 10000,
     RESTORE_BY_SIGNAL_MS = 1000,
@@ -39,9 +37,6 @@ enum {
     LOOK_MS = 5
 };
 
-/* The bytes of one read of the terminal, and the most that wait in the host: few, since a kill of the host loses them. */
-enum { TYPED_PIECE = 1024, TYPED_MOST = 4096 };
-
 /* The byte of Ctrl-C. */
 enum { CTRL_C = 3 };
 
@@ -50,23 +45,22 @@ static struct {
     struct pipes pipes;
     pid_t program, saver;
     int program_status;
-    /* Frames that wait to be written to the program, and the reader of its frames. */
-    struct frame_queue queue;
     struct word_reader reader;
     /* How many bytes the program was given, and how many of them it has read. */
     size_t given, taken;
     /* The program is to be told the window's size; the terminal has hung up; what did not end in time was killed; bytes were typed
      * since the last call of was_typed. */
     bool is_size_owed, is_hung_up, is_killed, is_typed;
-    /* The last row says what a program waits for that has read nothing for some time; the hint is shown; the message of a failed save is, and
-     * `notice` waits meanwhile. */
+    /* The last row says what a program waits for that has read nothing for some time; the hint is shown; the message of a failed save is. */
     bool is_late, is_hinted, is_failure_shown;
+    /* The notice that is to be given; is_noticed: there is one. */
     enum notice notice;
+    bool is_noticed;
     /* Times, 0 for never. `idle`: when to send the idle frame. `second`: the next tick. `answered`: when the program last read something, or
      * had nothing to read. `dropped`: when a save whose child was killed is refused, the rest of it having been thrown away. `left`:
-     * when a save that was given up is left even if its child does not end. `stop`: when the host stops. `handed_on`, `end`: until when
-     * typed bytes are handed to a program that is to end, and until when it may run. */
-    int64_t idle, second, answered, dropped, left, stop, handed_on, end;
+     * when a save that was given up is left even if its child does not end. `stop`: when the host stops. `end`: until when a program that is
+     * to end may run. */
+    int64_t idle, second, answered, dropped, left, stop, end;
 } live = {.pipes = {-1, -1, -1, -1}};
 
 int leave_run(void) {
@@ -84,9 +78,8 @@ bool was_typed(void) {
 
 /* A notice of nothing only makes the program try its journal again. */
 void give_notice(enum notice notice) {
-    unsigned char number = (unsigned char)notice;
-    if (!live.is_failure_shown) put_frame(&live.queue, FRAME_NOTICE, &number, 1);
-    else if (notice != NOTICE_NONE) live.notice = notice;
+    if (notice != NOTICE_NONE || !live.is_noticed) live.notice = notice;
+    live.is_noticed = true;
 }
 
 /* The bytes that the program was given and has not read. */
@@ -107,13 +100,40 @@ static void close_input(void) {
     live.idle = 0;
 }
 
-/* Writes what the program takes. A program that reads no more gets no more. */
-static void mind_queue(void) {
-    size_t before = queue_length(&live.queue);
-    if (live.pipes.keys < 0) return;
-    bool is_read = write_queue(&live.queue, live.pipes.keys);
-    live.given += before - queue_length(&live.queue);
-    if (!is_read) close_input();
+/* Whether the program's input has room for a frame. */
+static bool has_room(void) {
+    struct pollfd input = {.fd = live.pipes.keys, .events = POLLOUT};
+    return live.pipes.keys >= 0 && poll(&input, 1, 0) > 0;
+}
+
+/* Whether the terminal is read now: not while the program's input is full, but always during an end, for which what is typed is dropped. */
+static bool takes_typing(void) {
+    return !live.is_hung_up && (live.end != 0 || has_room());
+}
+
+/* Gives the program a frame. Returns false if its input has no room. A program that reads no more gets no more. */
+static bool give(enum frame_letter letter, const void *bytes, size_t length) {
+    if (live.pipes.keys < 0) return false;
+    bool is_given = write_frame(live.pipes.keys, letter, bytes, length);
+    if (is_given) live.given += FRAME_HEAD + length;
+    else if (errno != EAGAIN) close_input();
+    return is_given;
+}
+
+/* Gives the program what is owed to it: that no byte follows those that were typed, the window's size, and a notice. Bytes that came while the
+ * host was stopped still belong to what was typed before. The size waits until the terminal has taken what must precede the
+ * repainting; a notice waits while the message of a failed save is shown. */
+static void mind_owed(void) {
+    struct pollfd wanted = {.fd = terminal_line, .events = POLLIN};
+    struct size size;
+    unsigned char number = (unsigned char)live.notice;
+    if (live.idle != 0 && now() >= live.idle && takes_typing() && poll(&wanted, 1, 0) == 0 && give(FRAME_IDLE, NULL, 0)) live.idle = 0;
+    if (live.is_size_owed && !is_showing() && measure(&size)) {
+        const unsigned char bytes[] = {(unsigned char)(size.rows >> 8), (unsigned char)size.rows, (unsigned char)(size.columns >> 8),
+                                       (unsigned char)size.columns};
+        live.is_size_owed = !give(FRAME_SIZE, bytes, sizeof bytes);
+    }
+    if (live.is_noticed && !live.is_failure_shown) live.is_noticed = !give(FRAME_NOTICE, &number, 1);
 }
 
 /* What the program waits for that does not answer. */
@@ -194,11 +214,6 @@ static void mind_dropped(struct run *run) {
 
 /* ---- the terminal */
 
-/* Whether the terminal is read now: not while the queue is full, but always during an end, for which what is typed is dropped. */
-static bool takes_typing(void) {
-    return !live.is_hung_up && (live.end != 0 || queue_length(&live.queue) < TYPED_MOST);
-}
-
 /* Obeys a Ctrl-C that is for the host: it ends a start that has not painted yet, and gives up a save that the user was told is waited for.
  * Returns whether the bytes are no keys for the program. */
 static bool takes_ctrl_c(struct run *run, const unsigned char *bytes, size_t length) {
@@ -214,7 +229,7 @@ static bool takes_ctrl_c(struct run *run, const unsigned char *bytes, size_t len
 
 /* Reads the terminal. What is typed after the end is dropped. */
 static void read_typing(struct run *run) {
-    unsigned char bytes[TYPED_PIECE];
+    unsigned char bytes[FRAME_PIECE_MOST];
     ssize_t count = read(terminal_line, bytes, sizeof bytes);
     if (count == 0 || (count < 0 && errno != EAGAIN && errno != EINTR)) live.is_hung_up = true;
     if (count <= 0) return;
@@ -222,37 +237,20 @@ static void read_typing(struct run *run) {
     /* a paste that goes on is waited for */
     if (live.stop != 0 && watched->paste.is_under_way) live.stop = now() + PASTE_MS;
     if (takes_ctrl_c(run, bytes, (size_t)count) || live.end != 0 || end_signal) return;
-    put_frame(&live.queue, FRAME_TYPED, bytes, (size_t)count);
+    give(FRAME_TYPED, bytes, (size_t)count);
     live.idle = now() + IDLE_MS;
     live.is_typed = true;
     if (live.is_hinted && run->hint) live.is_size_owed = true;
     run->hint = NULL;
     live.is_failure_shown = false;
-    if (live.notice != NOTICE_NONE) give_notice(live.notice);
-    live.notice = NOTICE_NONE;
 }
 
-/* Tells the program that no byte follows. Bytes that came while the host was stopped still belong to what was typed before. */
-static void mind_idle(void) {
-    struct pollfd wanted = {.fd = terminal_line, .events = POLLIN};
-    if (live.idle == 0 || now() < live.idle || !takes_typing() || poll(&wanted, 1, 0) != 0) return;
-    if (put_frame(&live.queue, FRAME_IDLE, NULL, 0)) live.idle = 0;
-}
-
-/* Sets the terminal again after a stop, and owes the program a size then and after a resize, so that it paints anew. The size follows the
- * bytes that were typed before it, once the terminal has taken what must precede the repainting. */
+/* Sets the terminal again after a stop, and owes the program a size then and after a resize, so that it paints anew. */
 static void mind_terminal(void) {
     bool is_input = live.pipes.keys >= 0;
-    struct size size;
     if (is_input && is_continued) take_up_screen();
     if (is_input && (is_resized || is_continued)) live.is_size_owed = true;
     is_resized = is_continued = 0;
-    if (!live.is_size_owed || is_showing()) return;
-    live.is_size_owed = false;
-    if (!measure(&size)) return;
-    const unsigned char bytes[] = {(unsigned char)(size.rows >> 8), (unsigned char)size.rows, (unsigned char)(size.columns >> 8),
-                                   (unsigned char)size.columns};
-    live.is_size_owed = !put_frame(&live.queue, FRAME_SIZE, bytes, sizeof bytes);
 }
 
 /* Stops the program once it has read and painted all, or after HOLD_MS: a shell continues the whole job at once, and the program must not
@@ -291,17 +289,14 @@ static void mind_stop(void) {
 /* Waits until something can be read or written, or until the time `end`, and does it. */
 static void wait_once(struct run *run, int64_t end) {
     enum { WORDS, REQUESTS, KEYS, LINE, FILES };
-    bool is_saving = !run->saver || live.saver > 0, is_written = queue_length(&live.queue) > 0;
+    bool is_saving = !run->saver || live.saver > 0, is_read = takes_typing();
     /* poll passes over a file of -1 */
     struct pollfd files[FILES] = {
         [WORDS] = {.fd = live.pipes.words, .events = POLLIN},
         [REQUESTS] = {.fd = is_saving ? -1 : live.pipes.requests, .events = POLLIN},
-        [KEYS] = {.fd = is_written ? live.pipes.keys : -1, .events = POLLOUT},
-        [LINE] = {.fd = terminal_line, .events = 0},
+        [KEYS] = {.fd = is_read || has_room() ? -1 : live.pipes.keys, .events = POLLOUT},
+        [LINE] = {.fd = is_read || is_showing() ? terminal_line : -1, .events = (short)((is_read ? POLLIN : 0) | (is_showing() ? POLLOUT : 0))},
     };
-    if (takes_typing()) files[LINE].events |= POLLIN;
-    if (is_showing()) files[LINE].events |= POLLOUT;
-    if (files[LINE].events == 0) files[LINE].fd = -1;
     if (wait_for(files, FILES, end) <= 0) return;
     if (files[WORDS].revents) hear_words(run);
     if (files[REQUESTS].revents) mind_request(run);
@@ -313,19 +308,16 @@ static void wait_once(struct run *run, int64_t end) {
 static void mind_second(struct run *run) {
     if (now() < live.second) return;
     live.second = now() + SECOND_MS;
-    if (run->on_second && run->on_second(run->whose) && unread() == 0 && queue_length(&live.queue) == 0) give_notice(NOTICE_NONE);
+    if (run->on_second && run->on_second(run->whose) && unread() == 0) give_notice(NOTICE_NONE);
 }
 
-/* If the session is to end, closes the program's input once the program has what was typed, and kills what does not end in time. Returns
- * false once there is nothing left to wait for. */
+/* If the session is to end, closes the program's input, and kills what does not end in time. Returns false once there is nothing left to wait
+ * for. */
 static bool mind_end(const struct run *run) {
     if (!end_signal && !live.is_hung_up && live.program != 0) return true;
-    if (live.end == 0) {
-        /* a program that has read nothing yet loses nothing */
-        live.end = now() + (run->said.is_opened ? GRACE_MS : LEAST_MS);
-        live.handed_on = now() + HAND_ON_MS;
-    }
-    if (queue_length(&live.queue) == 0 || now() >= live.handed_on) close_input();
+    /* a program that has read nothing yet loses nothing */
+    if (live.end == 0) live.end = now() + (run->said.is_opened ? GRACE_MS : LEAST_MS);
+    close_input();
     if (now() < live.end) return true;
     if (live.is_killed) return false;
     if (live.program > 0 && kill(live.program, SIGKILL) == 0) live.program_status = SIGKILL;
@@ -337,8 +329,7 @@ static bool mind_end(const struct run *run) {
 
 /* The time of the next thing to do that no file or signal will wake the host for. */
 static int64_t next_moment(void) {
-    int64_t moments[] = {live.end, live.dropped, live.left, live.end == 0 ? live.stop : 0, live.pipes.keys >= 0 ? live.handed_on : 0,
-                         takes_typing() ? live.idle : 0};
+    int64_t moments[] = {live.end, live.dropped, live.left, live.end == 0 ? live.stop : 0, takes_typing() ? live.idle : 0};
     int64_t next = live.second;
     for (size_t i = 0; i < sizeof moments / sizeof *moments; i++)
         if (moments[i] != 0 && moments[i] < next) next = moments[i];
@@ -352,8 +343,7 @@ static void go_on(struct run *run) {
         mind_terminal();
         mind_second(run);
         mind_dropped(run);
-        mind_idle();
-        mind_queue();
+        mind_owed();
         mind_answer(run);
         if (!mind_end(run)) return;
         wait_once(run, next_moment());

@@ -177,7 +177,10 @@ static void add(struct save *save, const unsigned char *bytes, size_t length) {
 /* Obeys a frame of the program. Only a COMMIT touches the disk; it ends the child. Returns false if the program has gone. */
 static bool obey_frame(struct save *save, const struct frame *frame, int answer) {
     switch (frame->letter) {
-    case FRAME_BEGIN: save->is_cut = false; return write_frame(answer, FRAME_DONE, NULL, 0);
+    case FRAME_BEGIN:
+        save->is_cut = false;
+        if (save->saver->file->has_mark) add(save, (const unsigned char *)BYTE_ORDER_MARK, sizeof BYTE_ORDER_MARK - 1);
+        return write_frame(answer, FRAME_DONE, NULL, 0);
     case FRAME_PIECE: add(save, frame->bytes, frame->length); return true;
     case FRAME_COMMIT: end(save, save_text(save));
     default: return true;

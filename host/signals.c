@@ -21,10 +21,11 @@ static volatile int64_t end_time;
 
 /* The signals that were blocked when the host was started, and those that are blocked while it waits. */
 static sigset_t first_mask, waiting_mask;
+static bool was_pipe_ignored, was_size_ignored;
 
 /* Signals that ask the host to end. Others that end a process do so at once, and the watcher restores the terminal. */
-static const int ending[] = {SIGHUP, SIGINT, SIGQUIT, SIGTERM, SIGUSR1, SIGUSR2, SIGALRM, SIGPIPE,
-                             SIGXCPU, SIGXFSZ, SIGVTALRM, SIGPROF, SIGIO, SIGPWR, SIGSTKFLT};
+static const int ending[] = {SIGHUP, SIGINT, SIGQUIT, SIGTERM, SIGUSR1, SIGUSR2, SIGALRM,
+                             SIGXCPU, SIGVTALRM, SIGPROF, SIGIO, SIGPWR, SIGSTKFLT};
 static const int waking[] = {SIGWINCH, SIGCONT, SIGCHLD};
 /* The signal that asks for a stop, before which the terminal is restored. */
 static const int stopping[] = {SIGTSTP};
@@ -47,42 +48,22 @@ void note_end(int number) {
     note_end_at(number, now());
 }
 
-/* The handler of signals that wake the host: it only sets a flag, so that it may come at any moment. */
-static void note_waking(int number, siginfo_t *info, void *context) {
-    (void)info;
-    (void)context;
+/* The handlers only set flags, so that they may come at any moment. */
+static void note_waking(int number) {
     if (number == SIGWINCH) is_resized = 1;
     if (number == SIGCONT) is_continued = 1;
     if (number == SIGTSTP) is_stop_asked = 1;
 }
 
-/* Whether a write of the host's own is the cause. */
-static bool is_own_signal(int number, const siginfo_t *info) {
-    return (number == SIGPIPE || number == SIGXFSZ) && info->si_pid == getpid();
-}
-
-static void note_ending(int number, siginfo_t *info, void *context) {
-    (void)context;
-    if (!is_own_signal(number, info)) note_end(number);
-}
-
-/* Until catch_signals, such a signal ends the host, unless one of its own writes caused it. */
-static void die_unless_own(int number, siginfo_t *info, void *context) {
-    (void)context;
-    if (!is_own_signal(number, info)) die_from(number);
-}
-
 static bool is_ignored(int number) {
     struct sigaction before;
-    return sigaction(number, NULL, &before) != 0 || (!(before.sa_flags & SA_SIGINFO) && before.sa_handler == SIG_IGN);
+    return sigaction(number, NULL, &before) != 0 || before.sa_handler == SIG_IGN;
 }
 
-/* Has a signal handled by this function from now on, unless the caller of the host ignores it. */
-static void handle(int number, void (*handler)(int, siginfo_t *, void *)) {
-    struct sigaction action = {.sa_flags = SA_SIGINFO};
-    if (is_ignored(number) && number != SIGCHLD && number != SIGCONT && number != SIGWINCH) return;
+/* Has a signal handled by this function from now on. No call is begun again that it interrupts. */
+static void handle(int number, void (*handler)(int)) {
+    struct sigaction action = {.sa_handler = handler};
     sigemptyset(&action.sa_mask);
-    action.sa_sigaction = handler;
     sigaction(number, &action, NULL);
 }
 
@@ -103,14 +84,18 @@ void set_first_signals(void) {
     waiting_mask = first_mask;
     block(child, 1);
     handle(SIGCHLD, note_waking);
-    handle(SIGPIPE, die_unless_own);
-    handle(SIGXFSZ, die_unless_own);
+    /* a write to a pipe without a reader, or beyond a size limit, fails */
+    was_pipe_ignored = is_ignored(SIGPIPE);
+    was_size_ignored = is_ignored(SIGXFSZ);
+    signal(SIGPIPE, SIG_IGN);
+    signal(SIGXFSZ, SIG_IGN);
 }
 
 void catch_signals(void) {
     block(ending, ENDING);
     block(waking, WAKING);
-    for (size_t i = 0; i < ENDING; i++) handle(ending[i], note_ending);
+    for (size_t i = 0; i < ENDING; i++)
+        if (!is_ignored(ending[i])) handle(ending[i], note_end);
     for (size_t i = 0; i < WAKING; i++) handle(waking[i], note_waking);
     if (is_ignored(SIGTSTP)) return;
     block(stopping, 1);
@@ -136,6 +121,8 @@ void stop_here(void) {
 }
 
 void give_back_signals(void) {
+    if (!was_pipe_ignored) signal(SIGPIPE, SIG_DFL);
+    if (!was_size_ignored) signal(SIGXFSZ, SIG_DFL);
     sigprocmask(SIG_SETMASK, &first_mask, NULL);
 }
 

@@ -91,21 +91,22 @@ static bool is_screen(void) {
  * variable, so two variables say nothing; nor does one inside tmux or GNU screen. */
 static enum kind find_kind(void) {
     static const struct {
-        const char *variable, *value;
+        const char *variable, *program;
         enum kind kind;
-    } signs[] = {{"XTERM_VERSION", "", XTERM},             {"VTE_VERSION", "", OTHER_KIND},     {"KONSOLE_VERSION", "", KONSOLE},
-                 {"MLTERM", "", MLTERM},                   {"KITTY_WINDOW_ID", "", KITTY},      {"ALACRITTY_WINDOW_ID", "", OTHER_KIND},
-                 {"INSIDE_EMACS", "", OTHER_KIND},         {"TERM_PROGRAM", "kitty", KITTY},    {"TERM_PROGRAM", "qterminal", QTERMINAL},
-                 {"TERM_PROGRAM", "terminology", TERMINOLOGY}, {"TERM_PROGRAM", "vte", OTHER_KIND}};
+    } signs[] = {{"XTERM_VERSION", NULL, XTERM},      {"VTE_VERSION", NULL, OTHER_KIND},         {"KONSOLE_VERSION", NULL, KONSOLE},
+                 {"MLTERM", NULL, MLTERM},            {"KITTY_WINDOW_ID", NULL, KITTY},          {"ALACRITTY_WINDOW_ID", NULL, OTHER_KIND},
+                 {"INSIDE_EMACS", NULL, OTHER_KIND},  {"TERM_PROGRAM", NULL, OTHER_KIND},        {NULL, "konsole", KONSOLE},
+                 {NULL, "kitty", KITTY},              {NULL, "qterminal", QTERMINAL},            {NULL, "mlterm", MLTERM},
+                 {NULL, "terminology", TERMINOLOGY}};
     enum kind found = OTHER_KIND;
     int count = 0;
     if (variable("TMUX") || is_screen()) return OTHER_KIND;
     if (begins("TERM", "xterm-kitty")) return KITTY;
     if (!begins("TERM", "xterm") && !begins("TERM", "konsole") && !begins("TERM", "mlterm")) return OTHER_KIND;
     for (size_t i = 0; i < sizeof signs / sizeof *signs; i++) {
-        if (!variable(signs[i].variable) || !begins(signs[i].variable, signs[i].value)) continue;
-        found = signs[i].kind;
-        count++;
+        bool is_set = signs[i].variable && variable(signs[i].variable), is_program = signs[i].program && strcmp(value_of("TERM_PROGRAM"), signs[i].program) == 0;
+        if (is_set || is_program) found = signs[i].kind;
+        count += is_set;
     }
     return count == 1 ? found : OTHER_KIND;
 }

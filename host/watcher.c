@@ -25,32 +25,21 @@ enum { SAVE_MS = 4500, TTY_RESTORE_MS = 1000, WATCH_MS = 50 };
 struct watched *watched;
 pid_t watcher;
 
-/* The program's name in the command line. */
-static char *own_word = NULL;
+/* The program's name in the command line, and a copy of it. */
+static char *own_word, own_name[PATH_MAX];
+static size_t own_room;
 
 void note_own_word(char *word) {
     own_word = word;
+    own_room = word ? strnlen(word, sizeof own_name - 1) : 0;
+    for (size_t i = 0; i < own_room; i++) own_name[i] = word[i];
 }
 
-/* Writes another name over the host's own, within its room in the command line. */
-static void set_own_word(const char *bytes, size_t length) {
-    for (size_t i = 0; i < length; i++) own_word[i] = bytes[i];
-}
-
-/* Forks the watcher under another name. Users kill processes by the host's name, so the watcher never has that name. */
-static pid_t fork_under_name(void) {
-    static char other_word[PATH_MAX] = "bidi-watcher", word[PATH_MAX];
-    char name[16];
-    size_t length = own_word ? strnlen(own_word, sizeof word - 1) : 0;
-    prctl(PR_GET_NAME, name);
-    prctl(PR_SET_NAME, other_word);
-    if (length > 0) snprintf(word, sizeof word, "%s", own_word);
-    set_own_word(other_word, length);
-    pid_t child = fork();
-    if (child == 0) return 0;
+/* Gives this process a name, also in its command line, within the room there. */
+static void take_name(const char *name, const char *word) {
+    size_t length = strlen(word);
     prctl(PR_SET_NAME, name);
-    set_own_word(word, length);
-    return child;
+    for (size_t i = 0; i < own_room; i++) own_word[i] = i < length ? word[i] : 0;
 }
 
 /* Reads and drops bytes until the end of a pipe. Returns whether that came before the time `end`. */
@@ -120,23 +109,31 @@ static bool share(void) {
            pthread_mutex_lock(&watched->life) == 0;
 }
 
-/* The watcher closes all descriptors that it does not need, since others may wait for the end of a pipe or for FILE to be closed. No signal
- * but SIGKILL can end it. */
+/* Becomes the watcher. It closes all descriptors that it does not need, since others may wait for the end of a pipe or for FILE to be closed. No
+ * signal but SIGKILL can end it. */
+static _Noreturn void become_watcher(int words, const int held[2], const char *line, pid_t host) {
+    const int kept[] = {words, terminal_line, held[0], held[1]};
+    sigset_t mask;
+    sigfillset(&mask);
+    sigprocmask(SIG_SETMASK, &mask, NULL);
+    setpgid(0, 0);
+    /* a process without a controlling terminal is never stopped for being in the background */
+    ioctl(terminal_line, TIOCNOTTY);
+    close_others(kept, sizeof kept / sizeof *kept);
+    watch(words, host, line);
+}
+
+/* Users kill processes by the host's name, so the watcher never has that name. */
 bool start_watcher(int words, const int held[2], const char *line) {
-    if (!share()) return false;
+    static const char name[] = "bidi-watcher";
+    char before[16];
     pid_t host = getpid();
-    watcher = fork_under_name();
-    if (watcher == 0) {
-        const int kept[] = {words, terminal_line, held[0], held[1]};
-        sigset_t mask;
-        sigfillset(&mask);
-        sigprocmask(SIG_SETMASK, &mask, NULL);
-        setpgid(0, 0);
-        /* a process without a controlling terminal is never stopped for being in the background */
-        ioctl(terminal_line, TIOCNOTTY);
-        close_others(kept, sizeof kept / sizeof *kept);
-        watch(words, host, line);
-    }
+    if (!share()) return false;
+    prctl(PR_GET_NAME, before);
+    take_name(name, name);
+    watcher = fork();
+    if (watcher == 0) become_watcher(words, held, line, host);
+    take_name(before, own_name);
     if (watcher < 0) watcher = 0;
     /* in a process group of its own before the terminal changes, so that a kill of the whole job spares it */
     return watcher > 0 && (setpgid(watcher, watcher) == 0 || errno == EACCES);

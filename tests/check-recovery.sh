@@ -31,6 +31,9 @@ command -v python3 >/dev/null || skip 'there is no python3'
 
 export LC_ALL=C.UTF-8
 folder=$(mktemp -d) || exit 1
+# shellcheck source=tests/own_state.sh
+. "$top/tests/own_state.sh"
+own_state "$folder"
 socket=bidi-edit-$$
 mounted='' skipped=0
 clean_up() {
@@ -66,9 +69,10 @@ open_editor() { # NAME STATE FILE
     terminal new-session -d -s "$1" -x 80 -y 24 -e "XDG_STATE_HOME=$2" "exec '$top/bidi-edit' --no-joining '$3'"
 }
 
+# Types keys. The file has them as the journal has them: what terminals send for back and forward are other bytes.
 type_keys() { # NAME FILE-OF-KEYS
     [ -s "$2" ] || return 0
-    terminal load-buffer -b "$1" "$2"
+    LC_ALL=C sed -e 's/\x02/\x1b[1;3D/g' -e 's/\x06/\x1b[1;3C/g' "$2" | terminal load-buffer -b "$1" -
     terminal paste-buffer -r -d -b "$1" -t "$1"
 }
 

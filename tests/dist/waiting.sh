@@ -31,6 +31,21 @@ END
     wait_for 300 test -e "$folder/begun"
 }
 
+# The same where programs are built in crates/, and the host is compiled in its own folder.
+check_waiting_built() { # NAME
+    mkdir -p "$tree/host/lib" && cp -R "$tree/out/start/lib/bidi_edit" "$tree/host/lib/"
+    build_all
+    start_slowly
+    wait_for 300 shows 'bidi-edit: preparing the start, which takes some seconds'
+    report "$1, built here: a line after a second" $? "$(tmux -L "$socket" capture-pane -p -t start)"
+    : >"$folder/go"
+    wait_for 300 shows icanon
+    same "$1, built here: the terminal is as before" "$(tmux -L "$socket" capture-pane -p -t start | grep -e host -e status -e icanon | paste -s -d ' ')" \
+        'host note status 0 icanon|echo'
+    tmux -L "$socket" kill-session -t start
+    for name in $names; do rm -r "$tree/crates/$name/out"; done
+}
+
 # A start that takes longer than a second says so, shows nothing of what is typed meanwhile, and loses nothing of it. Ctrl-C ends it.
 check_waiting() { # NAME
     command -v tmux >/dev/null || {
@@ -50,6 +65,7 @@ check_waiting() { # NAME
     tmux -L "$socket" capture-pane -p -t start | grep -q 'read <.*typed>'
     report "$1, what was typed is there" $? "$(tmux -L "$socket" capture-pane -p -t start)"
     tmux -L "$socket" kill-session -t start
+    check_waiting_built "$1"
     start_slowly
     tmux -L "$socket" send-keys -t start C-c
     wait_for 300 shows icanon

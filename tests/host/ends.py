@@ -11,7 +11,7 @@ LIMIT = 5  # seconds from what ends the host until all is over (END_MS in host/s
 
 # What ends the host, each by its signal. The last two kill it at once, and the watcher restores the terminal.
 SIGNALS = {name: getattr(signal, 'SIG' + name.upper()) for name in (
-    'hup', 'int', 'quit', 'usr1', 'usr2', 'alrm', 'pipe', 'xcpu', 'xfsz', 'vtalrm', 'prof', 'io', 'pwr', 'abrt', 'sys')}
+    'hup', 'int', 'quit', 'usr1', 'usr2', 'alrm', 'xcpu', 'vtalrm', 'prof', 'io', 'pwr', 'abrt', 'sys')}
 KINDS = ['term', 'term-job', 'kill', 'kill-job', 'kill-name', 'kill-program', 'kill-watcher', 'stop', 'closed', 'blocked', *SIGNALS]
 
 

@@ -513,7 +513,42 @@ def printing(check, place):
     check.holds('not UTF-8', found[2].startswith('bidi-edit: latin is not UTF-8 (line 2): '), found)
 
 
-CASES = [told_words, refusals, a_session, keys_are_kept, questions, deletion, dropped, secrets, live, without_a_session, two_at_once,
+def byte_order_mark(check, place):
+    """A byte order mark at FILE's beginning is no text, and is written back, also by a session that was recovered."""
+    mark = b'\xef\xbb\xbf'
+    for text in (b'', b'one\n', b'one\n' * 400000):
+        place.put('a.txt', mark + text)
+        place.edit('a.txt').type(b'abc').sees(b'text <abc').type(SAVE).sees(b'saved').type(QUIT).ends(0)
+        check.same('FILE', place.text('a.txt')[:60], (mark + b'abc' + text)[:60])
+        check.same('its length', len(place.text('a.txt')), 6 + len(text))
+        check.same('sessions', place.sessions(), [])
+    place.put('a.txt', mark + b'one\n')
+    place.leave()
+    recovers(check, place, 'a.txt', b'abcone\n')
+    place.start('a.txt').answers(CHOICE, 'r').sees(b'text <abcone|>').type(SAVE).sees(b'saved').type(QUIT).ends(0)
+    check.same('FILE after a recovery', place.text('a.txt'), mark + b'abcone\n')
+    place.edit('a.txt').type(b'x').sees(b'*').type(QUIT).ends(0)
+    check.same('FILE after dropped changes', place.text('a.txt'), mark + b'abcone\n')
+
+
+def not_plain_by_now(check, place):
+    """Something else is in FILE's place by now: the text of its session can be stored, and it can be removed."""
+    makers = {'folder': os.mkdir, 'pipe': os.mkfifo, 'circle': lambda path: os.symlink('a.txt', path),
+              'broken link': lambda path: os.symlink('none/none', path)}
+    for name, make in makers.items():
+        place.put('a.txt', b'text\n')
+        place.leave()
+        os.unlink(place.path('a.txt'))
+        make(place.path('a.txt'))
+        found = place.start('--recover', 'a.txt').ends(1)
+        check.holds(f'{name}: told', 'bidi-edit --recover --to OTHER a.txt' in found.err(), found.err())
+        recovers(check, place, 'a.txt', b'abctext\n')
+        found = place.tells('--forget', 'a.txt')
+        check.holds(f'{name}: forgotten', found[0] == 0 and found[1].endswith('is deleted\n'), found)
+        (os.rmdir if name == 'folder' else os.unlink)(place.path('a.txt'))
+
+
+CASES = [not_plain_by_now, byte_order_mark, told_words, refusals, a_session, keys_are_kept, questions, deletion, dropped, secrets, live, without_a_session, two_at_once,
          cannot_be_replayed, replay_that_fails, changed_beside, changed_meanwhile, no_place_beside, all_is_there, another_version, recovered_by_text_twice, damaged, journal_gone, another_name, old_form,
          dead_disk, in_memory, elsewhere,
          lost_file, lost_folder, printing]

@@ -109,6 +109,21 @@ def parts_gone(check, place):
         shutil.rmtree(folder)
 
 
+def failed_save(check, place):
+    """The message of a failed save stays until a key is pressed; then what else is to be told comes."""
+    os.mkdir(place.path('d'))
+    place.put('d/a.txt', b'text\n')
+    started = place.edit('d/a.txt').type(b'abc').sees(b'*')
+    time.sleep(1.5)
+    os.rename(place.path('d'), place.path('e'))
+    started.type(SAVE).sees(b'failed')
+    remove_at_once(place.sessions()[0], place)
+    started.run.rest(4)
+    check.holds('nothing is told over it', b'notice' not in started.run.output, started.run.output)
+    started.type(b'd').sees(b'notice 2')
+    started.type(QUIT).ends(0)
+
+
 def journal_lost(check, place):
     """A journal that could not be written is told at the end, and by a recovery."""
     place.put('a.txt', b'text\n')
@@ -247,5 +262,5 @@ def replaced_on_full_disk(check, place):
         subprocess.run(['umount', disk])
 
 
-CASES = [saved, killed, killed_host, slow_syncs, replaced_on_full_disk, no_keys, other_names, folder_gone, parts_gone, journal_lost, folder_renamed,
+CASES = [saved, failed_save, killed, killed_host, slow_syncs, replaced_on_full_disk, no_keys, other_names, folder_gone, parts_gone, journal_lost, folder_renamed,
          working_folder_gone, no_folder, long_folder, pipe_in_its_place]

@@ -40,7 +40,7 @@ check_edit() {
     start 8 40 "$top/bidi-edit" note
     same 'edit, opened' "$(settled_screen person)" "$(alone 8 40 "$folder/opened" '')"
     type_keys -l 'new א '
-    type_keys Right Left C-f Right
+    type_keys Right Left M-Right Right
     typed='new א \033[C\033[D\006\033[C'
     same 'edit, typed and moved' "$(settled_screen person)" "$(alone 8 40 "$folder/opened" "$typed")"
     for size in '12 24' '7 60' '16 15'; do

@@ -80,11 +80,19 @@ Delete:\033[3~\033[P:\033[3~\033[3~
 xterm, rxvt and st, Delete with Control:\033[3;5~\033[3^\033[M:\033[89~\033[89~\033[89~
 Enter:a\rb:a\033[95~b
 Control and @, C, R, V, W, X:\000\003\022\026\027\030:\033[72~\033[73~\033[71~\033[75~\033[70~\033[74~
+Control and B, F:\002\006:\033[71~\033[70~
+Control and the key Q of a Hebrew layout:\037:\021
+xterm, Control and the keys Q and W of a Hebrew layout, where it is asked to tell them:\033[27;5;47~\033[27;5;39~:\021\033[70~
+F7 and F10:\033[18~\033[21~:\033[70~\021
+xterm, Right and Left with Alt:\033[1;3C\033[1;3D:\006\002
+other terminals, Right and Left with Alt:\033\033[C\033\033[D:\006\002
 Control and Y, Z:\031\032:\033[83~\033[82~
 Control and G, K, T, backslash:\007\013\024\034:\033[84~\033[86~\033[87~\033[85~
 Up and Down with Control, which the editor does not know:\033[1;5A\033[1;5B:\033[1;5A\033[1;5B
 Escape, and then a letter:\033a:\033a
 Escape, and then a digit of the keypad:\033\033Oq:\033\0301
+Escape, and then Up:\033\033[A:\033\033[96~
+Two Escapes, and then Right with Alt:\033\033\033[C:\033\030\006
 TEXT
 }
 
@@ -206,7 +214,7 @@ check_marks() {
     same 'input, a paste of tmux' "$(settled_journal | cat -v)" "$(printf '^[[90~one\ntwo^[[91~')"
     end_kept 'input, marks'
     has 'input, pastes asked for' "$(written)" '^[[?2004h'
-    has 'input, and given back' "$(written)" '^[[?2004l^[[0m'
+    has 'input, and given back' "$(written)" '^[[?2004l^[[?1002l^[[?1006l^[[0m'
 }
 
 # Tests the editor itself: Home from rxvt, F2, and a lone Escape before a paste of bytes that look like keys. `none` is not there.

@@ -17,16 +17,16 @@ press() { # NAME ROWS CURSOR [KEY..]
 check_control_bytes() {
     printf 'ab שלום עולם cd\n' >note
     start 4 40 "$top/bidi-edit" note
-    press 'a mark' 'ab םלוע םולש cd|||- 1:2 mark set' 1,0 C-f C-@
-    press 'a region in two pieces' 'a<b >םלוע םו<לש> cd|||- 1:6' 9,0 C-f C-f C-f C-f
+    press 'a mark' 'ab םלוע םולש cd|||- 1:2 mark set' 1,0 M-Right C-@
+    press 'a region in two pieces' 'a<b >םלוע םו<לש> cd|||- 1:6' 9,0 M-Right M-Right M-Right M-Right
     press 'a region cut' 'aםלוע םו cd|||* 1:2' 7,0 C-x
     press 'what was cut put elsewhere' 'aםלוע םו cdb לש|||* 1:16' 15,0 End C-v
     press 'a put undone as a whole' 'aםלוע םו cd|||* 1:12' 11,0 C-z
-    press 'a region copied' 'aםלוע םו cd|||* 1:2 copied' 7,0 Home C-@ C-f C-c
+    press 'a region copied' 'aםלוע םו cd|||* 1:2 copied' 7,0 Home C-@ M-Right C-c
     press 'a copy put' 'aaםלוע םו cd|||* 1:3' 8,0 C-v
-    press 'a search' 'aaםלוע םו cd|||* 1:3 find:' 8,0 C-w
+    press 'a search' 'aaםלוע םו cd|||* 1:3 find:' 8,0 C-f
     press 'a search for letters' 'aaםלוע םו cd|||* 1:8 find: םל' 3,0 ל ם
-    press 'a search past the end' 'aaםלוע םו cd|||* 1:8 from the start find: םל' 3,0 C-w
+    press 'a search past the end' 'aaםלוע םו cd|||* 1:8 from the start find: םל' 3,0 C-f
     press 'a search ended' 'aaםלוע םו cd|||* 1:8' 3,0 Enter
     press 'the query is kept' 'aaםלוע םו cd|||* 1:8 find: םל' 3,0 C-r
     press 'another query' 'aaםלוע םו cd|||* 1:3 from the start find: ו' 8,0 ו
@@ -55,13 +55,13 @@ drop() { # NAME
 check_points() {
     printf 'ab \327\251\326\270\327\201 cd\n' >note
     start 4 40 "$top/bidi-edit" note
-    press 'behind a letter with points' "$(printf 'ab \327\251\326\270\327\201 cd|||- 1:5')" 4,0 C-f C-f C-f C-f
+    press 'behind a letter with points' "$(printf 'ab \327\251\326\270\327\201 cd|||- 1:5')" 4,0 M-Right M-Right M-Right M-Right
     press 'a point erased' "$(printf 'ab \327\251\326\270 cd|||* 1:5')" 4,0 BSpace
     press 'the other point erased' 'ab ש cd|||* 1:5' 4,0 BSpace
     press 'the letter erased' 'ab  cd|||* 1:4' 3,0 BSpace
     press 'the letter and its points back' "$(printf 'ab \327\251\326\270\327\201 cd|||- 1:5')" 4,0 C-z
     press 'all three erased again' 'ab  cd|||* 1:4' 3,0 C-y
-    press 'the letter deleted with its points' 'ab  cd|||* 1:4' 3,0 C-z C-b DC
+    press 'the letter deleted with its points' 'ab  cd|||* 1:4' 3,0 C-z M-Left DC
     drop points
 }
 
@@ -78,7 +78,7 @@ check_runs() {
     press 'words made again' 'ab one|||* 1:8' 7,0 C-y C-y
     press 'letters erased in a row' 'ab o|||* 1:5' 4,0 BSpace BSpace BSpace
     press 'letters back' 'ab one|||* 1:8' 7,0 C-z
-    press 'a group that moves end' 'ab one x|||* 1:9' 8,0 x C-b C-f y C-z
+    press 'a group that moves end' 'ab one x|||* 1:9' 8,0 x M-Left M-Right y C-z
     drop runs
 }
 
@@ -125,7 +125,7 @@ check_questions() {
     # a key right after an Escape would belong to it
     sleep 0.3
     press 'a question given up by Escape' 'ab|cde||f|- 4:1' 0,3 C-k Escape
-    press 'a region' 'ab|<cd>e||f|- 2:3' 2,1 C-g 2 Enter C-@ C-f C-f
+    press 'a region' 'ab|<cd>e||f|- 2:3' 2,1 C-g 2 Enter C-@ M-Right M-Right
     type_keys C-k i C-s
     wait_for 30 shows saved
     type_keys C-q
@@ -201,7 +201,7 @@ check_found_again() {
     press 'F3' 'one two one two|||- 1:5' 4,0 F3
     press 'F3 again' 'one two one two|||- 1:13' 12,0 F3
     press 'F3 past the end' 'one two one two|||- 1:5 from the start' 4,0 F3
-    press 'a region' 'one <tw>o one two|||- 1:7' 6,0 C-@ C-f C-f
+    press 'a region' 'one <tw>o one two|||- 1:7' 6,0 C-@ M-Right M-Right
     press 'F3 keeps the mark' 'one <two one >two|||- 1:13' 12,0 F3
     press 'a search with a mark' 'one <two one tw>o|||- 1:15 find: o' 14,0 C-w o
     press 'the search given up by Escape, not the mark' 'one <two one >two|||- 1:13' 12,0 Escape
@@ -250,7 +250,7 @@ check_replacing() {
 check_new_line() {
     printf 'ab\r\ncd\nef' >note
     start 6 40 "$top/bidi-edit" note
-    press 'a new line' 'a|b|cd|ef||* 2:1' 0,1 C-f Enter
+    press 'a new line' 'a|b|cd|ef||* 2:1' 0,1 M-Right Enter
     press 'Enter in a search' 'a|b|cd|ef||* 4:1' 0,3 C-w e Enter
     press 'a new line behind it' 'a|b|cd||ef|* 5:1' 0,4 Enter
     press 'a new line erased as one' 'a|b|cd|ef||* 4:1' 0,3 BSpace

@@ -124,7 +124,7 @@ scene_dropped() {
 
 # Whether the session has its text, which it gets beside the first painting.
 has_session() {
-    [ -n "$(find "$shell/state" -name path)" ]
+    grep -rqs '^text ' --include=about "$shell/state"
 }
 
 # A second editor on an open file asks first, and at no leaves the file to the other one.

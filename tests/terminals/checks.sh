@@ -39,9 +39,8 @@ check_terminal() { # KIND
         return
     fi
     case $1 in
-    kitty_as_it_is) check_note "$1" 'force_ltr yes' .config/kitty/kitty.conf ;;
     qterminal)
-        check_note "$1" enabledBidiSupport=false .config/qterminal.org/qterminal.ini
+        check_hint "$1"
         check_changes "$1"
         # which has 60 columns and 10 rows
         xdotool windowsize "$window" 618 268
@@ -50,9 +49,9 @@ check_terminal() { # KIND
         ;;
     alacritty_tmux) check_mouse_in_tmux "$1" ;;
     alacritty_screen) check_mouse_in_screen "$1" ;;
-    *_tmux) check_in_tmux "$1" ;;
     foot | *_set) check_mouse "$1" ;;
     *)
+        [ "$1" != kitty ] || check_hint "$1"
         check_rows "$1"
         check_joined "$1"
         check_mark "$1"
@@ -366,31 +365,14 @@ check_title() { # KIND
     report "$1, title at the end" $? "$(title)"
 }
 
-# A terminal mirrors words unless it is set not to, and the host tells the setting.
-check_note() { # KIND LINE FILE
-    open_editor text "$1-editor"
-    leave_editor "$1"
-    case $(cat "$room/errors") in
-    *"$2"*) report "$1, the note" 0 '' ;;
-    *) report "$1, the note" 1 "$(cat "$room/errors")" ;;
-    esac
-    mkdir -p "$HOME/${3%/*}"
-    echo "$2" >>"$HOME/$3"
-    open_editor text "$1-set"
-    leave_editor "$1, set"
-    same "$1, set, no note" "$(cat "$room/errors")" ''
-}
-
-# In tmux the shell of window.sh runs once more, in a window of the terminal's size.
-check_in_tmux() { # KIND
-    if ! command -v tmux >/dev/null; then
-        skip "$1" 'there is no tmux'
-        return
-    fi
-    give "tmux -u -L bx$$ -f /dev/null new-session 'sh $room/shell' ';' set -g status off"
-    wait_for 100 has_obeyed
-    check_rows "$1"
-    give 'tmux kill-server'
-    # until tmux has given the terminal back
-    sleep 0.5
+# The first start in a terminal that mirrors words, unless it is set not to, says so in the last row, until a key is pressed.
+check_hint() { # KIND
+    open_editor text "$1-hint"
+    press Right Left
+    take_picture "$1-no-hint"
+    other_picture "$1, the hint" "$1-hint" "$1-no-hint"
+    leave_editor "$1, the hint"
+    open_editor text "$1-later"
+    same_picture "$1, no hint later" "$1-later" "$1-no-hint"
+    leave_editor "$1, no hint later"
 }

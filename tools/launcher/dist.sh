@@ -7,6 +7,8 @@
 
 # shellcheck source=tools/launcher/names.sh
 . "$top/tools/launcher/names.sh"
+# shellcheck source=tools/launcher/waiting.sh
+. "$top/tools/launcher/waiting.sh"
 # shellcheck source=tools/launcher/unpack.sh
 . "$top/tools/launcher/unpack.sh"
 

@@ -1,10 +1,6 @@
 # shellcheck shell=sh
 # shellcheck disable=SC2034,SC2154 # words that the scripts give and take
-# Unpacks dist/, for dist.sh. `top` is the repository, `place` the folder to unpack to, `begun` the time of the start.
-
-say_fault() { # WORDS
-    printf 'bidi-edit: %s\n' "$1" >&2
-}
+# Unpacks dist/, for dist.sh, which reads waiting.sh too. `top` is the repository, `place` the folder to unpack to, `begun` the time of the start.
 
 # Prints the cause from messages of commands in English, without their names. On a full disk, tar only says what it could not write.
 cause_of() { # WORDS
@@ -140,49 +136,9 @@ remove_old() {
         while read -r old; do rm -rf -- "${place%/*}/${old:?}" "${place%/*}/$old.lock"; done
 }
 
-# ---- the terminal meanwhile
-
-# Whether this process is the one that the terminal belongs to; another would be stopped if it changed the terminal.
-is_foreground() {
-    read -r line <"/proc/$$/stat" 2>/dev/null || return
-    # shellcheck disable=SC2086 # split into words
-    set -- ${line##*) }
-    [ "$3" = "$6" ]
-}
-
-# Leaves unseen what is typed until the editor begins, which then takes it, and says after a second why that takes time.
-begin_wait() {
-    modes='' teller=''
-    [ ! -t 2 ] || {
-        (
-            trap 'kill "$!" 2>/dev/null; exit' TERM
-            sleep 1 &
-            wait "$!"
-            say_fault 'preparing the start, which takes some seconds'
-        ) &
-        teller=$!
-    }
-    is_foreground && modes=$(stty -g </dev/tty 2>/dev/null) && stty -echo </dev/tty 2>/dev/null || modes=''
-}
-
-end_wait() {
-    [ -z "$teller" ] || { kill "$teller" && wait "$teller"; } 2>/dev/null
-    [ -z "$modes" ] || stty "$modes" </dev/tty 2>/dev/null
-    modes='' teller=''
-}
-
-# Makes the place ready for the script bidi-edit, which has no traps, while the terminal waits.
-prepare_waiting() {
-    begin_wait
-    trap 'end_wait; exit 129' HUP
-    trap 'end_wait; exit 130' INT
-    trap 'end_wait; exit 131' QUIT
-    trap 'end_wait; exit 143' TERM
+# The same, one start at a time, without the traps of the script.
+prepare_locked() {
     (trap - HUP INT QUIT TERM && prepare_alone) 9>>"$place.lock"
-    prepared=$?
-    trap - HUP INT QUIT TERM
-    end_wait
-    return "$prepared"
 }
 
 # Makes the place ready and sets `start`. It returns the same statuses as find_start, and has its words.
@@ -192,7 +148,7 @@ prepare() { # [thoroughly]
         refuse_place "$told"
         return
     }
-    if [ $# = 0 ]; then prepare_waiting; else (prepare_alone) 9>>"$place.lock"; fi
+    if [ $# = 0 ]; then while_waiting prepare_locked; else prepare_locked; fi
     case $? in
     0)
         start=$place

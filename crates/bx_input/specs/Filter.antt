@@ -1,6 +1,6 @@
 -- The filter's step for a byte, and its output for input, in two states: outside a paste, and within one. `b` is a byte, `bs` are
 -- bytes, `s` is a state.
-use Rattle.std.specs.Prelude.{ℕ, Bool, true, false, not, ◌&&◌, ◌||◌, ◌==◌, List, [], ◌∷◌, ◌++◌, codes, Option, Some, None, if◌then◌else◌}
+use Rattle.std.specs.Prelude.{ℕ, Bool, true, false, not, ◌&&◌, ◌||◌, ◌==◌, List, [], ◌∷◌, ◌++◌, drop, codes, Option, Some, None, if◌then◌else◌}
 use Rattle.std.specs.Str.{bytes_eq}
 use Rattle.bx_bytes.specs.Pattern.{is_within}
 use Rattle.bx_bytes.specs.declared.fate.Fate.{Fate}
@@ -60,6 +60,11 @@ abbrev pub is_empty : List ℕ → Bool
 is_empty [] = true
 is_empty (b ∷ bs) = false
 
+-- two Escapes come first: the first one may be Alt for the sequence that the second begins
+abbrev pub has_two_escapes : List ℕ → Bool
+has_two_escapes (a ∷ b ∷ bs) = a == 0x1B && b == 0x1B
+has_two_escapes _ = false
+
 -- whether or not the terminal's own erase character is DELETE
 module _ (erases_by_delete : Bool) where
   -- a byte where none waits; an open sequence stays open after a parameter or intermediate byte (20 to 3F: ECMA-48, 5.4)
@@ -72,11 +77,25 @@ module _ (erases_by_delete : Bool) where
   abbrev pub broken : List ℕ → Bool → ℕ → Step
   broken waiting is_open b = with_front waiting (fresh (fate (b ∷ [])) (is_open || not (is_empty waiting)) b)
 
+  -- a byte after the waiting bytes, by the fate of both, if no two Escapes wait
+  abbrev pub plain_step : Fate → List ℕ → Bool → ℕ → Step
+  plain_step Waits waiting is_open b = step_to (Outside (waiting ++ b ∷ []) is_open) []
+  plain_step Ends waiting is_open b = ended is_open (becomes_of erases_by_delete (waiting ++ b ∷ []))
+  plain_step Breaks waiting is_open b = broken waiting is_open b
+
+  -- an Escape goes out, and the byte is read behind the bytes after it
+  abbrev pub behind_escape : List ℕ → ℕ → Step
+  behind_escape waiting b = with_front (0x1B ∷ []) (plain_step (fate (waiting ++ b ∷ [])) waiting true b)
+
+  -- The byte breaks the sequence. Of two Escapes that wait the second may begin a sequence of its own.
+  abbrev pub breaks_off : List ℕ → Bool → ℕ → Step
+  breaks_off waiting is_open b = if has_two_escapes waiting then behind_escape (drop 1 waiting) b else broken waiting is_open b
+
   -- a byte after the waiting bytes, by the fate of both
   abbrev pub step_by : Fate → List ℕ → Bool → ℕ → Step
-  step_by Waits waiting is_open b = step_to (Outside (waiting ++ b ∷ []) is_open) []
-  step_by Ends waiting is_open b = ended is_open (becomes_of erases_by_delete (waiting ++ b ∷ []))
-  step_by Breaks waiting is_open b = broken waiting is_open b
+  step_by Waits waiting is_open b = plain_step Waits waiting is_open b
+  step_by Ends waiting is_open b = plain_step Ends waiting is_open b
+  step_by Breaks waiting is_open b = breaks_off waiting is_open b
 
 -- ---- within a paste; `paste_fate` (`Paste.antt`) says the same of the sequences that are known within one
 
@@ -102,9 +121,12 @@ abbrev pub at_end : State → List ℕ
 at_end (Outside waiting is_open) = waiting
 at_end (Within waiting after_return) = pasted_part waiting
 
--- time goes by after the last byte: an Escape that waits alone is the key Cancel, and all else goes on waiting
+-- time goes by after the last byte: an Escape that waits alone, or behind another, is the key Cancel, and all else goes on waiting
 abbrev pub idle : State → Step
-idle (Outside waiting is_open) = if bytes_eq waiting (0x1B ∷ []) then step_to start (csi (codes "93~")) else step_to (Outside waiting is_open) []
+idle (Outside waiting is_open) =
+    if bytes_eq waiting (0x1B ∷ []) then step_to start (csi (codes "93~"))
+    else if bytes_eq waiting (0x1B ∷ 0x1B ∷ []) then step_to start (0x1B ∷ csi (codes "93~"))
+    else step_to (Outside waiting is_open) []
 idle (Within waiting after_return) = step_to (Within waiting after_return) []
 
 -- a paste is under way

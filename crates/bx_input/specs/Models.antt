@@ -49,6 +49,19 @@ begun beginning.ThreeAnd = csi (codes "3;")
 begun beginning.ThreeControlled = csi (codes "3;5")
 begun beginning.Five = csi (codes "5")
 begun beginning.Six = csi (codes "6")
+begun beginning.TwoEscapes = 0x1B ∷ 0x1B ∷ []
+begun beginning.EscapeCsi = 0x1B ∷ csi []
+begun beginning.Eighteen = csi (codes "18")
+begun beginning.Alternate = csi (codes "1;3")
+begun beginning.TwentyOne = csi (codes "21")
+begun beginning.TwentySeven = csi (codes "27")
+begun beginning.TwentySevenAnd = csi (codes "27;")
+begun beginning.ControlCode = csi (codes "27;5")
+begun beginning.ControlCodeAnd = csi (codes "27;5;")
+begun beginning.CodeThree = csi (codes "27;5;3")
+begun beginning.CodeThirtyNine = csi (codes "27;5;39")
+begun beginning.CodeFour = csi (codes "27;5;4")
+begun beginning.CodeFortySeven = csi (codes "27;5;47")
 
 -- CSI < and numbers of a mouse report
 abbrev pub begun_report : List ℕ → List ℕ
@@ -73,7 +86,7 @@ abbrev pub Tells : Bool → After → List ℕ → Type 0
 Tells erases_by_delete (after.Waits beginning) read = (fate read ≡ Waits) × (begun beginning ≡ read)
 Tells erases_by_delete (after.Becomes bytes) read =
     (fate read ≡ Ends) × (becomes_of erases_by_delete read ≡ Some bytes.now) × BeginsByEscape bytes.now
-Tells erases_by_delete (after.Digit digit) read = (fate read ≡ Ends) × (becomes_of erases_by_delete read ≡ Some (digit ∷ [])) × (digit ≢ 0x1B)
+Tells erases_by_delete (after.Byte byte) read = (fate read ≡ Ends) × (becomes_of erases_by_delete read ≡ Some (byte ∷ [])) × (byte ≢ 0x1B)
 Tells erases_by_delete after.Reports read = (fate read ≡ Waits) × (begun_report [] ≡ read)
 Tells erases_by_delete after.Pastes read = (fate read ≡ Ends) × (becomes_of erases_by_delete read ≡ None)
 Tells erases_by_delete after.Breaks read = fate read ≡ Breaks

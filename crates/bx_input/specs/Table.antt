@@ -4,7 +4,7 @@ use Rattle.std.specs.Prelude.{ℕ, Bool, true, false, List, [], ◌∷◌, ◌++
 use Rattle.std.specs.Str.{bytes_eq}
 use Rattle.bx_bytes.specs.Pattern.{Piece, One}
 use Rattle.bx_keys.specs.declared.key.Key.{Key}
-use Rattle.bx_keys.specs.declared.key.Key.TheVariants.{Insert, Delete, Right, Left, RowHome, RowEnd, Direction}
+use Rattle.bx_keys.specs.declared.key.Key.TheVariants.{Insert, Delete, Back, Forward, Right, Left, RowHome, RowEnd, Quit, Direction}
 use Rattle.bx_keys.specs.declared.key.Key.TheVariants.{Mark, Copy, Cut, Put, Find, FindBack, WordLeft, WordRight, TextStart, TextEnd, Help}
 use Rattle.bx_keys.specs.declared.key.Key.TheVariants.{EraseWord, DeleteWord, FindNext, ErasePoint, NewLine, LineUp, LineDown, PageBack, PageOn}
 use Rattle.bx_keys.specs.declared.key.Key.TheVariants.{Select, UndoRun, RedoRun, GoTo, Replace, Name, Tell}
@@ -153,6 +153,24 @@ find_keys =
     ∷ row (csi (codes "[C")) (csi (codes "92~")) FindNext
     ∷ []
 
+-- F7, of xterm, rxvt and the Linux console; and Ctrl with the key W, where a Hebrew layout gives an apostrophe, of terminals that
+-- are asked to tell Ctrl (xterm's modifyOtherKeys)
+abbrev search_keys : List Row
+search_keys = row (csi (codes "18~")) (csi (codes "70~")) Find ∷ row (csi (codes "27;5;39~")) (csi (codes "70~")) Find ∷ []
+
+-- F10, of the same terminals; and Ctrl with the key Q, where a Hebrew layout gives a slash
+abbrev quit_keys : List Row
+quit_keys = row (csi (codes "21~")) (0x11 ∷ []) Quit ∷ row (csi (codes "27;5;47~")) (0x11 ∷ []) Quit ∷ []
+
+-- Right and Left with Alt, of xterm, tmux and screen; of terminals that send an ESC for Alt
+abbrev step_keys : List Row
+step_keys =
+    row (csi (codes "1;3C")) (0x06 ∷ []) Forward
+    ∷ row (csi (codes "1;3D")) (0x02 ∷ []) Back
+    ∷ row (0x1B ∷ csi (codes "C")) (0x06 ∷ []) Forward
+    ∷ row (0x1B ∷ csi (codes "D")) (0x02 ∷ []) Back
+    ∷ []
+
 -- F4, of the terminals that `direction_keys` names
 abbrev replace_keys : List Row
 replace_keys =
@@ -185,23 +203,29 @@ text_end_keys =
 abbrev selecting_rows : List Row
 selecting_rows = shifted_keys ++ (shifted_rxvt_keys ++ (shifted_st_keys ++ shifted_control_keys))
 
+-- the rows whose keys move or select
+abbrev pub move_rows : List Row
+move_rows = row_keys ++ (application_keys ++ (rxvt_keys ++ (selecting_rows ++ (word_keys ++ (text_end_keys ++ step_keys)))))
+
+-- the other rows whose sequence begins with ESC
+abbrev pub command_rows : List Row
+command_rows =
+    delete_keys
+    ++ (delete_word_keys
+    ++ (erase_word_keys ++ (direction_keys ++ (keypad_digits ++ (help_keys ++ (find_keys ++ (search_keys ++ (replace_keys ++ quit_keys))))))))
+
 -- the rows whose sequence begins with ESC
 abbrev pub escape_rows : List Row
-escape_rows =
-    row_keys
-    ++ (application_keys
-    ++ (rxvt_keys
-    ++ (selecting_rows
-    ++ (delete_keys
-    ++ (delete_word_keys
-    ++ (erase_word_keys ++ (direction_keys ++ (keypad_digits ++ (help_keys ++ (find_keys ++ (replace_keys ++ (word_keys ++ text_end_keys))))))))))))
+escape_rows = move_rows ++ command_rows
 
--- the rows whose sequence is one control byte: Ctrl with @ (or the space bar), C, G, K, R, T, V, W, X, Y, Z and the
--- backslash, and Enter
+-- the rows whose sequence is one control byte: Ctrl with @ (or the space bar), B, C, F, G, K, R, T, V, W, X, Y, Z, the
+-- backslash and the slash, which is on the key Q of a Hebrew layout, and Enter
 abbrev pub control_rows : List Row
 control_rows =
     row (0x00 ∷ []) (csi (codes "72~")) Mark
+    ∷ row (0x02 ∷ []) (csi (codes "71~")) FindBack
     ∷ row (0x03 ∷ []) (csi (codes "73~")) Copy
+    ∷ row (0x06 ∷ []) (csi (codes "70~")) Find
     ∷ row (0x07 ∷ []) (csi (codes "84~")) GoTo
     ∷ row (0x0B ∷ []) (csi (codes "86~")) Name
     ∷ row (0x12 ∷ []) (csi (codes "71~")) FindBack
@@ -212,6 +236,7 @@ control_rows =
     ∷ row (0x19 ∷ []) (csi (codes "83~")) RedoRun
     ∷ row (0x1A ∷ []) (csi (codes "82~")) UndoRun
     ∷ row (0x1C ∷ []) (csi (codes "85~")) Replace
+    ∷ row (0x1F ∷ []) (0x11 ∷ []) Quit
     ∷ row (0x0D ∷ []) (csi (codes "95~")) NewLine
     ∷ []
 

@@ -54,6 +54,32 @@ pub enum Beginning {
     ShiftControlled,
     /// CSI 5
     Five,
+    /// ESC ESC
+    TwoEscapes,
+    /// ESC and CSI
+    EscapeCsi,
+    /// CSI 18
+    Eighteen,
+    /// CSI 1;3
+    Alternate,
+    /// CSI 21
+    TwentyOne,
+    /// CSI 27
+    TwentySeven,
+    /// CSI 27;
+    TwentySevenAnd,
+    /// CSI 27;5
+    ControlCode,
+    /// CSI 27;5;
+    ControlCodeAnd,
+    /// CSI 27;5;3
+    CodeThree,
+    /// CSI 27;5;39
+    CodeThirtyNine,
+    /// CSI 27;5;4
+    CodeFour,
+    /// CSI 27;5;47
+    CodeFortySeven,
 }
 
 impl Beginning {
@@ -86,6 +112,19 @@ impl Beginning {
             Beginning::Controlled => b"\x1b[1;5",
             Beginning::ShiftControlled => b"\x1b[1;6",
             Beginning::Five => b"\x1b[5",
+            Beginning::TwoEscapes => b"\x1b\x1b",
+            Beginning::EscapeCsi => b"\x1b\x1b[",
+            Beginning::Eighteen => b"\x1b[18",
+            Beginning::Alternate => b"\x1b[1;3",
+            Beginning::TwentyOne => b"\x1b[21",
+            Beginning::TwentySeven => b"\x1b[27",
+            Beginning::TwentySevenAnd => b"\x1b[27;",
+            Beginning::ControlCode => b"\x1b[27;5",
+            Beginning::ControlCodeAnd => b"\x1b[27;5;",
+            Beginning::CodeThree => b"\x1b[27;5;3",
+            Beginning::CodeThirtyNine => b"\x1b[27;5;39",
+            Beginning::CodeFour => b"\x1b[27;5;4",
+            Beginning::CodeFortySeven => b"\x1b[27;5;47",
         }
     }
 }

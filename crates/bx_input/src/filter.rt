@@ -54,8 +54,8 @@ impl Filter {
         output
     }
 
-    /// Takes note that nothing follows for a while: an Escape that waits alone is the key Cancel, whose sequence is returned.
-    /// All else that waits goes on waiting.
+    /// Takes note that nothing follows for a while: an Escape that waits alone, or behind another, is the key Cancel, whose
+    /// sequence is returned. All else that waits goes on waiting.
     pub fn idle(&mut self) -> &'static [u8]
         ensures state { self.new ≡ filtering self.old.erases_by_delete (spec.idle self.old.state).state }
         ensures output { result.now ≡ (spec.idle self.old.state).output }
@@ -67,6 +67,13 @@ impl Filter {
             } => {
                 *self = Filter::new(self.erases_by_delete);
                 b"\x1b[93~"
+            }
+            FilterState::Outside {
+                waiting: Beginning::TwoEscapes,
+                ..
+            } => {
+                *self = Filter::new(self.erases_by_delete);
+                b"\x1b\x1b[93~"
             }
             _ => b"",
         }

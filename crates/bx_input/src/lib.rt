@@ -2,7 +2,7 @@
 //!
 //! Terminals send bytes that the editor has no key for, or has an older one for than the key that they come from: arrows,
 //! Page Up and Page Down, the Home and End of rxvt, keys with Shift, Alt or Ctrl, the keys that erase, Enter, the Delete of
-//! st, F1 to F4, the keypad's digits, pastes, and reports of the mouse. `specs/Table.antt` has the table, `specs/Mouse.antt` the
+//! st, F1 to F4, F7 and F10, the keypad's digits, pastes, and reports of the mouse. `specs/Table.antt` has the table, `specs/Mouse.antt` the
 //! reports. All else passes unchanged, broken sequences too. A paste becomes text between two keys that tell its start and its end: of its control bytes only TAB and
 //! LF are left, so it can neither save nor quit nor move nor erase, nor set a mark, cut or search.
 //!
@@ -11,6 +11,7 @@
 #![tactic(auto)]
 
 mod after;
+mod after_csi;
 mod beginning;
 mod filter;
 mod filter_state;

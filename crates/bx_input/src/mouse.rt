@@ -9,7 +9,7 @@ ghost use Rattle.bx_input.specs.Mouse.{report_of};
 ghost use Rattle.bx_input.specs.Models.{bytes_of, IsReport, TellsOfReport};
 
 use crate::numbers::Numbers;
-use crate::output::{Output, keys, plain};
+use crate::output::{Output, can, keys, plain};
 use bx_keys::{first_semicolon, number, side};
 
 /// A mouse report. Column and row are the digits that came.
@@ -136,7 +136,7 @@ fn reported(is_open: bool, report: Report<'_>) -> Output
 fn nothing_after(is_open: bool) -> Output
     ensures { bytes_of result ≡ apart_from is_open [] }
 {
-    plain(if is_open { b"\x18" } else { b"" }, None)
+    plain(can(is_open), None)
 }
 
 /// The output of these bytes, a row and a column, and the final byte of the key Point.

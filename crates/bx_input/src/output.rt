@@ -1,6 +1,7 @@
 //! The filter's output for a byte.
 
-ghost use Rattle.std.specs.Prelude.{◌≡◌, ◌++◌, [], OnOk, option_to_list};
+ghost use Rattle.std.specs.Prelude.{◌≡◌, ◌≢◌, ◌∷◌, ◌++◌, [], OnOk, if◌then◌else◌, option_to_list};
+ghost use Rattle.bx_input.specs.Filter.{apart_from};
 ghost use Rattle.bx_input.specs.Models.{bytes_of};
 
 use crate::numbers::Numbers;
@@ -10,7 +11,7 @@ use std::alloc::AllocError;
 /// the four may be missing.
 #[derive(Drop)]
 pub struct Output {
-    /// The waiting bytes that go out unchanged, at most five (CSI 200), or what stands before numbers that go out.
+    /// The waiting bytes that go out unchanged, at most nine (CSI 27;5;39), or what stands before numbers that go out.
     pub before: &'static [u8],
     /// The numbers of a mouse report, at most eleven bytes: all of one that broke off, or a cell's row and column.
     pub numbers: Numbers,
@@ -49,6 +50,21 @@ pub(crate) fn plain(before: &'static [u8], byte: Option<u8>) -> Output
         key: b"",
         byte,
     }
+}
+
+/// The output of a byte that is a key, after a CAN (18) if a sequence is open, which would else take the byte as its own.
+pub(crate) fn apart(is_open: bool, byte: u8) -> Output
+    requires { byte ≢ 0x1B }
+    ensures { bytes_of result ≡ apart_from is_open (byte ∷ []) }
+{
+    plain(can(is_open), Some(byte))
+}
+
+/// A CAN (18) if a sequence is open.
+pub(crate) fn can(is_open: bool) -> &'static [u8]
+    ensures { result.now ≡ if is_open then 0x18 ∷ [] else [] }
+{
+    if is_open { b"\x18" } else { b"" }
 }
 
 /// Appends the bytes of an output.

@@ -3,19 +3,19 @@
 
 ghost use Rattle.std.specs.Prelude.{◌≡◌, ◌≢◌, ◌||◌, false, not, ◌∷◌, [], ◌++◌, option_to_list};
 ghost use Rattle.bx_input.specs.Filter as spec;
-ghost use Rattle.bx_input.specs.Filter.{apart_from, broken, fresh_in_paste, is_empty, paste_step_by, with_front};
+ghost use Rattle.bx_input.specs.Filter.{broken, fresh_in_paste, is_empty, paste_step_by, with_front};
 ghost use Rattle.bx_input.specs.Known.{fate};
 ghost use Rattle.bx_input.specs.Models.{begun, begun_report, bytes_of, state_of, Goes};
 ghost use Rattle.bx_input.specs.PasteTail.{tail_bytes};
 ghost use Rattle.bx_input.specs.Paste.{pasted_byte, pasted_part, paste_fate};
 
-use crate::after::{After, ESC, control_key, sequence_after};
+use crate::after::{After, ESC, QUIT, US, control_key, sequence_after};
 use crate::beginning::Beginning;
 use crate::filter_state::FilterState;
 use crate::in_paste::{AfterInPaste, paste_after};
 use crate::mouse::{AfterReport, report_after};
 use crate::numbers::Numbers;
-use crate::output::{Output, keys, nothing, plain};
+use crate::output::{Output, apart, can, keys, nothing, plain};
 use crate::paste_tail::PasteTail;
 
 /// Outside a paste, with nothing waiting.
@@ -54,10 +54,10 @@ fn outside(
     match sequence_after(erases_by_delete, waiting, byte) {
         After::Waits(waiting) => (FilterState::Outside { waiting, is_open }, nothing()),
         After::Becomes(bytes) => (OUTSIDE, keys(bytes)),
-        After::Digit(digit) => (OUTSIDE, apart(is_open, digit)),
+        After::Byte(byte) => (OUTSIDE, apart(is_open, byte)),
         After::Reports => (begin_report(is_open), nothing()),
         After::Pastes => (fresh_paste(false), keys(b"\x1b[90~")),
-        After::Breaks => pass_on(erases_by_delete, waiting, is_open, byte),
+        After::Breaks => break_off(erases_by_delete, waiting, is_open, byte),
     }
 }
 
@@ -71,12 +71,58 @@ fn begin_report(is_open: bool) -> FilterState
     }
 }
 
-/// Sends a digit, after a CAN (18) if a sequence is open, which would else take the digit as its own.
-fn apart(is_open: bool, digit: u8) -> Output
-    requires { digit ≢ 0x1B }
-    ensures { bytes_of result ≡ apart_from is_open (digit ∷ []) }
+/// Reads a byte that does not continue the waiting bytes' sequence. Of two ESC that wait the second may begin one.
+fn break_off(
+    erases_by_delete: bool,
+    waiting: Beginning,
+    is_open: bool,
+    byte: u8,
+) -> (FilterState, Output)
+    ensures { Goes result (spec.breaks_off erases_by_delete (begun waiting) is_open byte) }
 {
-    plain(if is_open { b"\x18" } else { b"" }, Some(digit))
+    match waiting {
+        Beginning::TwoEscapes => behind_escape(erases_by_delete, waiting, Beginning::Escape, byte),
+        Beginning::EscapeCsi => behind_escape(erases_by_delete, waiting, Beginning::Csi, byte),
+        _ => pass_on(erases_by_delete, waiting, is_open, byte),
+    }
+}
+
+/// Passes the first ESC of the waiting bytes on, and reads a byte behind the rest of them.
+fn behind_escape(
+    erases_by_delete: bool,
+    waiting: Beginning,
+    rest: Beginning,
+    byte: u8,
+) -> (FilterState, Output)
+    requires { begun waiting ≡ 0x1B ∷ begun rest }
+    ensures { Goes result (spec.behind_escape erases_by_delete (begun rest) byte) }
+{
+    match sequence_after(erases_by_delete, rest, byte) {
+        After::Waits(waiting) => (
+            FilterState::Outside {
+                waiting,
+                is_open: true,
+            },
+            plain(b"\x1b", None),
+        ),
+        After::Becomes(key) => (OUTSIDE, escape_and_keys(key)),
+        After::Byte(byte) => (OUTSIDE, plain(b"\x1b\x18", Some(byte))),
+        After::Reports => (begin_report(true), plain(b"\x1b", None)),
+        After::Pastes => (fresh_paste(false), escape_and_keys(b"\x1b[90~")),
+        After::Breaks => pass_on(erases_by_delete, waiting, true, byte),
+    }
+}
+
+/// The output of an ESC that waited, and these bytes of keys.
+fn escape_and_keys(key: &'static [u8]) -> Output
+    ensures { bytes_of result ≡ 0x1B ∷ key.now }
+{
+    Output {
+        before: b"\x1b",
+        numbers: Numbers::new(),
+        key,
+        byte: None,
+    }
 }
 
 /// Passes the waiting bytes on, whose sequence the byte does not continue, and reads the byte afresh. Ordinary text comes this way, with no
@@ -152,6 +198,13 @@ fn fresh(erases_by_delete: bool, is_open: bool, byte: u8) -> AfterFresh
             },
             key: b"",
             byte: None,
+        };
+    }
+    if byte == US {
+        return AfterFresh {
+            state: OUTSIDE,
+            key: can(is_open),
+            byte: Some(QUIT),
         };
     }
     match control_key(erases_by_delete, byte) {

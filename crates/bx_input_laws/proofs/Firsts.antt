@@ -95,39 +95,41 @@ breaks_at patterns x xs b h = breaks_if patterns (x ∷ (xs ++ b ∷ [])) (any_n
 
 -- ---- a byte that some take behind another
 
--- the byte and another before it are a pattern
-abbrev is_pair_of : ℕ → List Piece → Bool
-is_pair_of a (One low high ∷ One l h ∷ []) = nat_eq low a && nat_eq high a
-is_pair_of a _ = false
+-- the pattern begins with the byte `a`, and none but its first and second take the byte `b`
+abbrev lacks_after_second : ℕ → ℕ → List Piece → Bool
+lacks_after_second a b (One low high ∷ One l h ∷ ps) = (nat_eq low a && nat_eq high a) && list_all (lacks b) ps
+lacks_after_second a b _ = false
 
--- none has the byte but as its first, or behind that one alone
+-- none has the byte but as its first, or right behind `a` as the first
 abbrev pub lacks_behind : ℕ → ℕ → List Piece → Bool
-lacks_behind a b p = lacks_after_first b p || is_pair_of a p
+lacks_behind a b p = lacks_after_first b p || lacks_after_second a b p
 
 not_within : (a low high x : ℕ) → nat_eq low a && nat_eq high a ≡ true → nat_eq x a ≡ false → is_within low high x ≡ false
 not_within a low high x is n = grind (arith, nat_tests)
 
-pair_not_begun : (a : ℕ) (p : List Piece) (x : ℕ) (xs : List ℕ) (b : ℕ) → is_pair_of a p ≡ true → bytes_eq (x ∷ xs) (a ∷ []) ≡ false
+second_not_begun : (a : ℕ) (p : List Piece) (x : ℕ) (xs : List ℕ) (b : ℕ) → lacks_after_second a b p ≡ true → bytes_eq (x ∷ xs) (a ∷ []) ≡ false
     → begins p (x ∷ (xs ++ b ∷ [])) ≡ false
-pair_not_begun a [] x xs b is n = absurd (cc is)
-pair_not_begun a (Many low high ∷ ps) x xs b is n = absurd (cc is)
-pair_not_begun a (One low high ∷ []) x xs b is n = absurd (cc is)
-pair_not_begun a (One low high ∷ Many l h ∷ ps) x xs b is n = absurd (cc is)
-pair_not_begun a (One low high ∷ One l h ∷ p ∷ ps) x xs b is n = absurd (cc is)
-pair_not_begun a (One low high ∷ One l h ∷ []) x [] b is n =
+second_not_begun a [] x xs b is n = absurd (cc is)
+second_not_begun a (Many low high ∷ ps) x xs b is n = absurd (cc is)
+second_not_begun a (One low high ∷ []) x xs b is n = absurd (cc is)
+second_not_begun a (One low high ∷ Many l h ∷ ps) x xs b is n = absurd (cc is)
+second_not_begun a (One low high ∷ One l h ∷ ps) x [] b is n =
+    let first = and_parts (nat_eq low a && nat_eq high a) (list_all (lacks b) ps) is in
     let other : nat_eq x a ≡ false = grind (arith, nat_tests) in
-    and_left (is_within low high x) (begins (One l h ∷ []) (b ∷ [])) (not_within a low high x is other)
-pair_not_begun a (One low high ∷ One l h ∷ []) x (y ∷ ys) b is n =
-    and_right (is_within low high x) (begins (One l h ∷ []) (y ∷ (ys ++ b ∷ []))) (and_right (is_within l h y) (begins [] (ys ++ b ∷ [])) (none_begin [] ys b refl))
+    and_left (is_within low high x) (begins (One l h ∷ ps) (b ∷ [])) (not_within a low high x first.0 other)
+second_not_begun a (One low high ∷ One l h ∷ ps) x (y ∷ ys) b is n =
+    let first = and_parts (nat_eq low a && nat_eq high a) (list_all (lacks b) ps) is in
+    and_right (is_within low high x) (begins (One l h ∷ ps) (y ∷ (ys ++ b ∷ [])))
+    (and_right (is_within l h y) (begins ps (ys ++ b ∷ [])) (none_begin ps ys b first.1))
 
 any_not_behind : (patterns : List (List Piece)) (a x : ℕ) (xs : List ℕ) (b : ℕ) → list_all (lacks_behind a b) patterns ≡ true
     → bytes_eq (x ∷ xs) (a ∷ []) ≡ false → begins_any patterns (x ∷ (xs ++ b ∷ [])) ≡ false
 any_not_behind [] a x xs b h n = refl
 any_not_behind (p ∷ patterns) a x xs b h n =
     let parts = and_parts (lacks_behind a b p) (list_all (lacks_behind a b) patterns) h in
-    let here : begins p (x ∷ (xs ++ b ∷ [])) ≡ false = elim (or_cases (lacks_after_first b p) (is_pair_of a p) parts.0) [
+    let here : begins p (x ∷ (xs ++ b ∷ [])) ≡ false = elim (or_cases (lacks_after_first b p) (lacks_after_second a b p) parts.0) [
       | inl lacks ↦ not_begun p x xs b lacks
-      | inr pair ↦ pair_not_begun a p x xs b pair n
+      | inr second ↦ second_not_begun a p x xs b second n
     ] in
     or_from (begins p (x ∷ (xs ++ b ∷ []))) (begins_any patterns (x ∷ (xs ++ b ∷ []))) here (any_not_behind patterns a x xs b parts.1 n)
 

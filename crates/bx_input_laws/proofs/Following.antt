@@ -1,10 +1,10 @@
 -- The editor's decoder behind the filter.
-use Rattle.std.proofs.Common.{◌≡◌, ◌≢◌, ℕ, ◌⊎◌, inl, inr, Bool, true, false, ◌&&◌, List, [], ◌∷◌, ◌++◌, drop, get_or, Option, Some, None}
+use Rattle.std.proofs.Common.{◌≡◌, ◌≢◌, ℕ, ◌⊎◌, inl, inr, Bool, true, false, ◌&&◌, cond, List, [], ◌∷◌, ◌++◌, drop, get_or, Option, Some, None}
 use Rattle.std.proofs.Common.{refl, ap, sym, ◌∙◌, append_assoc, subst}
 use Rattle.std.specs.Prelude.{find}
 use Rattle.std.specs.List.{AllByRecursion, list_all}
 use Rattle.std.specs.Str.{bytes_eq}
-use Rattle.std.proofs.lemmas.Bool.{both_ways, cases_Bool, cases_eq, and_parts, and_cases, or_parts, cond-true, cond-false}
+use Rattle.std.proofs.lemmas.Bool.{both_ways, cases_Bool, cases_eq, and_parts, and_cases, or_cases, or_parts, cond-true, cond-false, false≢true}
 use Rattle.std.proofs.lemmas.List.{append-nil}
 use Rattle.std.proofs.lemmas.Slice.Eq.{bytes_eq-Decides}
 use Rattle.bx_bytes.specs.Pattern.{is_within}
@@ -21,8 +21,8 @@ use Rattle.bx_input.specs.Mouse.{reported}
 use Rattle.bx_input.specs.Table.{Row, keys_of, paste_start, paste_end, start_told, end_told, rows, row_of}
 use Rattle.bx_input.specs.Paste.{pasted, paste_fate}
 use Rattle.bx_input.specs.Filter.{State, Outside, Within, Step, step_to, ended_in_paste, paste_step_by, fresh_in_paste, ended, start}
-use Rattle.bx_input.specs.Filter.{at_end, apart_from, is_empty, fresh, broken, step_by, step, run, filtered}
-use Rattle.bx_input_laws.specs.Laws.{became, longer_by, longer_row, row_behind, is_text_byte, IsText, HasKeys, AddsKeys, BecomesRow, PastesInsert}
+use Rattle.bx_input.specs.Filter.{at_end, apart_from, is_empty, fresh, broken, has_two_escapes, plain_step, behind_escape, step_by, step, run, filtered}
+use Rattle.bx_input_laws.specs.Laws.{are_escapes, became, longer_by, longer_row, row_behind, is_text_byte, IsText, HasKeys, AddsKeys, BecomesRow, PastesInsert}
 use Rattle.bx_input_laws.proofs.Anew.{nothing_free, starts_anew, sent_anew}
 use Rattle.bx_input_laws.proofs.Clean.{pastes_clean}
 use Rattle.bx_input_laws.proofs.Decoding.{IsFree, IsOutside, anew, alone_free, sequence_over, still_free, text_inserts}
@@ -30,7 +30,7 @@ use Rattle.bx_input_laws.proofs.Decoding.{text_not_escape}
 use Rattle.bx_input_laws.proofs.Growth.{found}
 use Rattle.bx_input_laws.proofs.Inserting.{utf8_inserts}
 use Rattle.bx_input_laws.proofs.Keys.{rows_have_keys}
-use Rattle.bx_input_laws.proofs.Known.{IsKnown, ReportIs, RowIs, StartIs, known_ends, known_breaks_at}
+use Rattle.bx_input_laws.proofs.Known.{IsKnown, ReportIs, RowIs, StartIs, known_ends, known_breaks_behind, two_escapes}
 use Rattle.bx_input.proofs.Rows.{is_open_after}
 use Rattle.bx_input_laws.proofs.Passing.{rows_become}
 use Rattle.bx_input_laws.proofs.Pastes.{pastes_text}
@@ -80,10 +80,11 @@ last_of (x ∷ xs) = elim (last_of xs) [
   | inr some ↦ inr (x ∷ some.0, some.1, ap (λ ys. x ∷ ys) some.2)
 ]
 
--- the decoder has a lone ESC only where the filter had no more than that
-bare_alone : (rest : List ℕ) (x : ℕ) (xs : List ℕ) → editor.fate rest ≡ Waits → fate (x ∷ xs) ≡ Waits → left rest (x ∷ xs) ≡ 0x1B ∷ [] → x ∷ xs ≡ 0x1B ∷ []
+-- the decoder has a lone ESC only where the filter had no more than that, or two
+bare_alone : (rest : List ℕ) (x : ℕ) (xs : List ℕ) → editor.fate rest ≡ Waits → fate (x ∷ xs) ≡ Waits → has_two_escapes (x ∷ xs) ≡ false
+    → left rest (x ∷ xs) ≡ 0x1B ∷ [] → x ∷ xs ≡ 0x1B ∷ []
 unfolding IsLast
-bare_alone rest x xs w h e = elim (last_of xs) [
+bare_alone rest x xs w h plain e = elim (last_of xs) [
   | inl none ↦ (
       let one : left rest (x ∷ []) ≡ 0x1B ∷ [] = ap (λ ys. left rest (x ∷ ys)) (sym none) ∙ e in
       elim (cases_eq x 0x1B) [
@@ -93,7 +94,13 @@ bare_alone rest x xs w h e = elim (last_of xs) [
   | inr some ↦ elim (cases_eq some.1 0x1B) [
     | inl escape ↦ absurd (
         let same : x ∷ xs ≡ x ∷ (some.0 ++ 0x1B ∷ []) = ap (λ ys. x ∷ ys) (some.2 ∙ ap (λ b. some.0 ++ b ∷ []) escape) in
-        let breaks : Waits ≡ Breaks = sym h ∙ ap fate same ∙ known_breaks_at x some.0 0x1B refl refl in
+        let other : bytes_eq (x ∷ some.0) (0x1B ∷ []) ≡ false = elim (cases_Bool (bytes_eq (x ∷ some.0) (0x1B ∷ []))) [
+          | inl one ↦ absurd (
+              let two : x ∷ xs ≡ 0x1B ∷ 0x1B ∷ [] = same ∙ ap (λ ys. ys ++ 0x1B ∷ []) ((bytes_eq-Decides (x ∷ some.0) (0x1B ∷ [])).0 one) in
+              both_ways (has_two_escapes (x ∷ xs)) plain (ap has_two_escapes two))
+          | inr more ↦ more
+        ] in
+        let breaks : Waits ≡ Breaks = sym h ∙ ap fate same ∙ known_breaks_behind 0x1B x some.0 0x1B refl refl other in
         cc breaks)
     | inr other ↦ absurd (
         let front : List ℕ = x ∷ some.0 in
@@ -209,12 +216,12 @@ module _ (by_delete : Bool) where
 
   -- or something did
   broken_free : (is_open : Bool) (rest : List ℕ) (x : ℕ) (xs : List ℕ) (b : ℕ) → editor.fate rest ≡ Waits → fate (x ∷ xs) ≡ Waits
-      → fate (x ∷ (xs ++ b ∷ [])) ≡ Breaks → b ≢ 0x1B → is_open_after (x ∷ xs) is_open && is_within 0x20 0x3F b ≡ false
-      → IsFree (rest_after (left rest (x ∷ xs)) b)
-  broken_free is_open rest x xs b w h g n c =
+      → fate (x ∷ (xs ++ b ∷ [])) ≡ Breaks → has_two_escapes (x ∷ xs) ≡ false → b ≢ 0x1B
+      → is_open_after (x ∷ xs) is_open && is_within 0x20 0x3F b ≡ false → IsFree (rest_after (left rest (x ∷ xs)) b)
+  broken_free is_open rest x xs b w h g plain n c =
       let outside : is_within 0x20 0x3F b ≡ false = within_false is_open (is_within 0x20 0x3F b) c in
       let alone : left rest (x ∷ xs) ≡ 0x1B ∷ [] → fate (0x1B ∷ b ∷ []) ≡ Breaks =
-      λ e. ap (λ ys. fate (ys ++ b ∷ [])) (sym (bare_alone rest x xs w h e)) ∙ g in
+      λ e. ap (λ ys. fate (ys ++ b ∷ [])) (sym (bare_alone rest x xs w h plain e)) ∙ g in
       over_by (left rest (x ∷ xs)) b (rest_waits (rest ++ x ∷ xs)) (record {
         not_within = outside;
         not_escape = n;
@@ -226,16 +233,16 @@ module _ (by_delete : Bool) where
   after_byte rest waiting b = left_append rest waiting (b ∷ [])
 
   other_follows : (waiting : List ℕ) (is_open : Bool) (rest : List ℕ) (b : ℕ) → editor.fate rest ≡ Waits → fate waiting ≡ Waits
-      → fate (waiting ++ b ∷ []) ≡ Breaks → b ≢ 0x1B → FollowsOutside waiting is_open rest
+      → fate (waiting ++ b ∷ []) ≡ Breaks → has_two_escapes waiting ≡ false → b ≢ 0x1B → FollowsOutside waiting is_open rest
       → FollowsOutside [] (is_open_after waiting is_open && is_within 0x20 0x3F b) (left rest (waiting ++ b ∷ []))
-  other_follows [] is_open rest b w h g n f = record {
+  other_follows [] is_open rest b w h g plain n f = record {
     closed = λ c. passed_free is_open rest b f w n c;
     not_bare = λ e. not_bare rest b w n;
   }
-  other_follows (x ∷ xs) is_open rest b w h g n f =
+  other_follows (x ∷ xs) is_open rest b w h g plain n f =
       let same : left rest (x ∷ (xs ++ b ∷ [])) ≡ rest_after (left rest (x ∷ xs)) b = after_byte rest (x ∷ xs) b in
       record {
-        closed = λ c. subst IsFree (sym same) (broken_free is_open rest x xs b w h g n c);
+        closed = λ c. subst IsFree (sym same) (broken_free is_open rest x xs b w h g plain n c);
         not_bare = λ e s. not_bare (left rest (x ∷ xs)) b (rest_waits (rest ++ x ∷ xs)) n (sym same ∙ s);
       }
 
@@ -248,35 +255,69 @@ module _ (by_delete : Bool) where
   breaks_no_escape b h e = let same : Waits ≡ Breaks = ap (λ x. fate (x ∷ [])) (sym e) ∙ h in cc same
 
   fresh_follows_outside : (t : Fate) (waiting : List ℕ) (is_open : Bool) (rest : List ℕ) (b : ℕ) → fate (b ∷ []) ≡ t → editor.fate rest ≡ Waits
-      → fate waiting ≡ Waits → fate (waiting ++ b ∷ []) ≡ Breaks → FollowsOutside waiting is_open rest
+      → fate waiting ≡ Waits → fate (waiting ++ b ∷ []) ≡ Breaks → has_two_escapes waiting ≡ false → FollowsOutside waiting is_open rest
       → Follows (fresh by_delete t (is_open_after waiting is_open) b).state (left rest (waiting ++ (fresh by_delete t (is_open_after waiting is_open) b).output))
-  fresh_follows_outside Waits waiting is_open rest b e w h g f =
+  fresh_follows_outside Waits waiting is_open rest b e w h g plain f =
       subst (λ xs. FollowsOutside (b ∷ []) (is_open_after waiting is_open) (left rest xs)) (sym (append-nil waiting))
       (record { closed = λ c. escape_closed waiting is_open rest w f c; not_bare = λ no s. cc no })
-  fresh_follows_outside Ends waiting is_open rest b e w h g f =
+  fresh_follows_outside Ends waiting is_open rest b e w h g plain f =
       let opened : Bool = is_open_after waiting is_open in
       let went : Step = ended opened (becomes_of by_delete (b ∷ [])) in
       subst (Follows went.state) (sym (left_append rest waiting went.output))
       (ended_follows opened (b ∷ []) (left rest waiting) e (rest_waits (rest ++ waiting)) (λ c. escape_closed waiting is_open rest w f c))
-  fresh_follows_outside Breaks waiting is_open rest b e w h g f = other_follows waiting is_open rest b w h g (breaks_no_escape b e) f
+  fresh_follows_outside Breaks waiting is_open rest b e w h g plain f = other_follows waiting is_open rest b w h g plain (breaks_no_escape b e) f
 
   broken_follows : (waiting : List ℕ) (is_open : Bool) (rest : List ℕ) (b : ℕ) → editor.fate rest ≡ Waits → fate waiting ≡ Waits
-      → fate (waiting ++ b ∷ []) ≡ Breaks → FollowsOutside waiting is_open rest
+      → fate (waiting ++ b ∷ []) ≡ Breaks → has_two_escapes waiting ≡ false → FollowsOutside waiting is_open rest
       → Follows (broken by_delete waiting is_open b).state (left rest (broken by_delete waiting is_open b).output)
-  broken_follows waiting is_open rest b w h g f = fresh_follows_outside (fate (b ∷ [])) waiting is_open rest b refl w h g f
+  broken_follows waiting is_open rest b w h g plain f = fresh_follows_outside (fate (b ∷ [])) waiting is_open rest b refl w h g plain f
 
   not_nothing : (xs : List ℕ) (b : ℕ) → xs ++ b ∷ [] ≢ []
   not_nothing [] b e = cc e
   not_nothing (x ∷ xs) b e = cc e
 
+  plain_follows : (f : Fate) (waiting : List ℕ) (is_open : Bool) (b : ℕ) (rest : List ℕ) → fate (waiting ++ b ∷ []) ≡ f → fate waiting ≡ Waits
+      → (f ≡ Breaks → has_two_escapes waiting ≡ false) → editor.fate rest ≡ Waits → FollowsOutside waiting is_open rest
+      → Follows (plain_step by_delete f waiting is_open b).state (left rest (plain_step by_delete f waiting is_open b).output)
+  plain_follows Waits waiting is_open b rest h s plain w f =
+      subst (FollowsOutside (waiting ++ b ∷ []) is_open) (sym (left_none rest w))
+      (record { closed = f.closed; not_bare = λ e. absurd (not_nothing waiting b e) })
+  plain_follows Ends waiting is_open b rest h s plain w f = ended_follows is_open (waiting ++ b ∷ []) rest h w f.closed
+  plain_follows Breaks waiting is_open b rest h s plain w f = broken_follows waiting is_open rest b w s h (plain refl) f
+
+  -- where two ESC wait, the first leaves one in the decoder
+  escape_left : (rest : List ℕ) → editor.fate rest ≡ Waits → left rest (0x1B ∷ []) ≡ 0x1B ∷ []
+  escape_left rest w = ap (λ (d : Decoding). d.rest) (anew rest 0x1B [] refl w)
+
+  open_follows : (x : ℕ) (xs rest : List ℕ) → FollowsOutside (x ∷ xs) true rest
+  open_follows x xs rest = record { closed = λ e. absurd (false≢true (sym e)); not_bare = λ e s. cc e }
+
+  behind_follows : (x : ℕ) (xs : List ℕ) (b : ℕ) (rest : List ℕ) → fate (x ∷ xs) ≡ Waits → has_two_escapes (x ∷ xs) ≡ false → editor.fate rest ≡ Waits
+      → Follows (behind_escape by_delete (x ∷ xs) b).state (left rest (behind_escape by_delete (x ∷ xs) b).output)
+  behind_follows x xs b rest s plain w =
+      let went : Step = plain_step by_delete (fate (x ∷ (xs ++ b ∷ []))) (x ∷ xs) true b in
+      let next : List ℕ = left rest (0x1B ∷ []) in
+      subst (Follows went.state) (sym (left_append rest (0x1B ∷ []) went.output))
+      (plain_follows (fate (x ∷ (xs ++ b ∷ []))) (x ∷ xs) true b next refl s (λ e. plain) (rest_waits (rest ++ 0x1B ∷ [])) (open_follows x xs next))
+
+  breaks_follow : (t : Bool) (waiting : List ℕ) (is_open : Bool) (b : ℕ) (rest : List ℕ) → has_two_escapes waiting ≡ t → fate (waiting ++ b ∷ []) ≡ Breaks
+      → fate waiting ≡ Waits → editor.fate rest ≡ Waits → FollowsOutside waiting is_open rest
+      → Follows (cond t (behind_escape by_delete (drop 1 waiting) b) (broken by_delete waiting is_open b)).state
+      (left rest (cond t (behind_escape by_delete (drop 1 waiting) b) (broken by_delete waiting is_open b)).output)
+  breaks_follow false waiting is_open b rest e h s w f = broken_follows waiting is_open rest b w s h e f
+  breaks_follow true waiting is_open b rest e h s w f = elim (two_escapes waiting e s) [
+    | inl two ↦ subst (λ xs. Follows (behind_escape by_delete (drop 1 xs) b).state (left rest (behind_escape by_delete (drop 1 xs) b).output)) (sym two)
+        (behind_follows 0x1B [] b rest refl refl w)
+    | inr csi ↦ subst (λ xs. Follows (behind_escape by_delete (drop 1 xs) b).state (left rest (behind_escape by_delete (drop 1 xs) b).output)) (sym csi)
+        (behind_follows 0x1B (0x5B ∷ []) b rest refl refl w)
+  ]
+
   outside_follows : (f : Fate) (waiting : List ℕ) (is_open : Bool) (b : ℕ) (rest : List ℕ) → fate (waiting ++ b ∷ []) ≡ f → fate waiting ≡ Waits
       → editor.fate rest ≡ Waits → FollowsOutside waiting is_open rest
       → Follows (step_by by_delete f waiting is_open b).state (left rest (step_by by_delete f waiting is_open b).output)
-  outside_follows Waits waiting is_open b rest h s w f =
-      subst (FollowsOutside (waiting ++ b ∷ []) is_open) (sym (left_none rest w))
-      (record { closed = f.closed; not_bare = λ e. absurd (not_nothing waiting b e) })
-  outside_follows Ends waiting is_open b rest h s w f = ended_follows is_open (waiting ++ b ∷ []) rest h w f.closed
-  outside_follows Breaks waiting is_open b rest h s w f = broken_follows waiting is_open rest b w s h f
+  outside_follows Waits waiting is_open b rest h s w f = plain_follows Waits waiting is_open b rest h s (λ e. cc e) w f
+  outside_follows Ends waiting is_open b rest h s w f = plain_follows Ends waiting is_open b rest h s (λ e. cc e) w f
+  outside_follows Breaks waiting is_open b rest h s w f = breaks_follow (has_two_escapes waiting) waiting is_open b rest refl h s w f
 
   -- ---- within a paste
 
@@ -363,8 +404,30 @@ module _ (by_delete : Bool) where
       ∙ ap (λ (d : Decoding). (decoding sent).keys ++ d.keys) (anew (decoding sent).rest 0x1B [] refl (rest_waits sent))
       ∙ append-nil (decoding sent).keys
 
+  -- nor have two
+  escape_keys : (waiting sent : List ℕ) → are_escapes waiting ≡ true → (decoding (sent ++ waiting)).keys ≡ (decoding (sent ++ drop 1 waiting)).keys
+  escape_keys waiting sent h = elim (or_cases (bytes_eq waiting (0x1B ∷ [])) (bytes_eq waiting (0x1B ∷ 0x1B ∷ [])) h) [
+    | inl one ↦ subst (λ w. (decoding (sent ++ w)).keys ≡ (decoding (sent ++ drop 1 w)).keys) (sym ((bytes_eq-Decides waiting (0x1B ∷ [])).0 one))
+        (escape_key sent ∙ ap (λ xs. (decoding xs).keys) (sym (append-nil sent)))
+    | inr two ↦ subst (λ w. (decoding (sent ++ w)).keys ≡ (decoding (sent ++ drop 1 w)).keys) (sym ((bytes_eq-Decides waiting (0x1B ∷ 0x1B ∷ [])).0 two))
+        (ap (λ xs. (decoding xs).keys) (sym (append_assoc sent (0x1B ∷ []) (0x1B ∷ []))) ∙ escape_key (sent ++ 0x1B ∷ []))
+  ]
+
+  closed_behind : (waiting : List ℕ) (is_open : Bool) (sent : List ℕ) → are_escapes waiting ≡ true → FollowsOutside waiting is_open (decoding sent).rest
+      → is_open_after (drop 1 waiting) is_open ≡ false → IsFree (decoding (sent ++ drop 1 waiting)).rest
+  closed_behind waiting is_open sent h f c = elim (or_cases (bytes_eq waiting (0x1B ∷ [])) (bytes_eq waiting (0x1B ∷ 0x1B ∷ [])) h) [
+    | inl one ↦ (
+        let same : waiting ≡ 0x1B ∷ [] = (bytes_eq-Decides waiting (0x1B ∷ [])).0 one in
+        let closed : is_open ≡ false = (or_parts is_open false (sym (ap (λ w. is_open_after (drop 1 w) is_open) same) ∙ c)).0 in
+        subst (λ w. IsFree (decoding (sent ++ drop 1 w)).rest) (sym same) (subst (λ xs. IsFree (decoding xs).rest) (sym (append-nil sent)) (f.closed closed)))
+    | inr two ↦ absurd (
+        let same : waiting ≡ 0x1B ∷ 0x1B ∷ [] = (bytes_eq-Decides waiting (0x1B ∷ 0x1B ∷ [])).0 two in
+        let no = (or_parts is_open true (sym (ap (λ w. is_open_after (drop 1 w) is_open) same) ∙ c)).1 in
+        cc no)
+  ]
+
   -- the row that an ESC makes longer, if there is one
-  adds_by : (o : Option Row) (r : Row) (bs waiting : List ℕ) (is_open : Bool) → IsAlike r → ((q : Row) → o ≡ Some q → IsAlike q × (waiting ≡ 0x1B ∷ []))
+  adds_by : (o : Option Row) (r : Row) (bs waiting : List ℕ) (is_open : Bool) → IsAlike r → ((q : Row) → o ≡ Some q → IsAlike q × (are_escapes waiting ≡ true))
       → (run by_delete start bs).state ≡ Outside waiting is_open → run by_delete start (bs ++ r.sequence) ≡ step_to start (became by_delete bs waiting is_open r o)
       → (decoding (filtered by_delete (bs ++ r.sequence))).keys ≡ (decoding (filtered by_delete bs)).keys ++ keys_of (row_behind r o)
   adds_by None r bs waiting is_open is longer at becoming =
@@ -375,14 +438,16 @@ module _ (by_delete : Bool) where
   adds_by (Some q) r bs waiting is_open is longer at becoming =
       let all : Step = run by_delete start bs in
       let ucd = longer q refl in
-      let out : filtered by_delete (bs ++ r.sequence) ≡ all.output ++ apart_from is_open q.becomes =
-      ap (λ (x : Step). x.output ++ at_end x.state) becoming ∙ append-nil (all.output ++ apart_from is_open q.becomes) in
-      let before : filtered by_delete bs ≡ all.output ++ 0x1B ∷ [] = ap (λ s. all.output ++ at_end s) at ∙ ap (λ xs. all.output ++ xs) ucd.1 in
+      let opened : Bool = is_open_after (drop 1 waiting) is_open in
+      let sent : List ℕ = all.output ++ drop 1 waiting in
+      let out : filtered by_delete (bs ++ r.sequence) ≡ sent ++ apart_from opened q.becomes =
+      ap (λ (x : Step). x.output ++ at_end x.state) becoming ∙ append-nil (sent ++ apart_from opened q.becomes) in
+      let before : filtered by_delete bs ≡ all.output ++ waiting = ap (λ s. all.output ++ at_end s) at in
       let f : FollowsOutside waiting is_open (decoding all.output).rest =
       subst (λ s. Follows s (decoding all.output).rest) at (run_follows start bs [] refl refl (nothing_follows false)) in
       ap (λ xs. (decoding xs).keys) out
-      ∙ sent_key q is_open all.output ucd.0 f.closed
-      ∙ ap (λ keys. keys ++ keys_of q) (sym (ap (λ xs. (decoding xs).keys) before ∙ escape_key all.output))
+      ∙ sent_key q opened sent ucd.0 (closed_behind waiting is_open all.output ucd.1 f)
+      ∙ ap (λ keys. keys ++ keys_of q) (sym (ap (λ xs. (decoding xs).keys) before ∙ escape_keys waiting all.output ucd.1))
 
   -- what is true of all rows is so of one that is found
   of_found : (P : Row → Type 0) (p : Row → Bool) (rs : List Row) (q : Row) → AllByRecursion P rs → find p rs ≡ Some q → P q
@@ -398,13 +463,13 @@ module _ (by_delete : Bool) where
     is_anew = (found (λ (x : Row). bytes_eq x.sequence read) is_anew (rows by_delete) q (all_anew by_delete) h).fits;
   }
 
-  longer_says : (o : Option Row) (waiting read : List ℕ) (q : Row) → row_of by_delete read ≡ o → longer_by waiting o ≡ Some q → IsAlike q × (waiting ≡ 0x1B ∷ [])
+  longer_says : (o : Option Row) (waiting read : List ℕ) (q : Row) → row_of by_delete read ≡ o → longer_by waiting o ≡ Some q → IsAlike q × (are_escapes waiting ≡ true)
   longer_says None waiting read q h is = absurd (cc is)
-  longer_says (Some r) waiting read q h is = elim (cases_Bool (bytes_eq waiting (0x1B ∷ []))) [
+  longer_says (Some r) waiting read q h is = elim (cases_Bool (are_escapes waiting)) [
     | inl same ↦ (
-        let e : r ≡ q = (let s : Some r ≡ Some q = sym (cond-true (bytes_eq waiting (0x1B ∷ [])) (Some r) None same) ∙ is in cc s) in
-        (subst IsAlike e (row_alike read r h), (bytes_eq-Decides waiting (0x1B ∷ [])).0 same))
-    | inr other ↦ absurd (let no : None ≡ Some q = sym (cond-false (bytes_eq waiting (0x1B ∷ [])) (Some r) None other) ∙ is in cc no)
+        let e : r ≡ q = (let s : Some r ≡ Some q = sym (cond-true (are_escapes waiting) (Some r) None same) ∙ is in cc s) in
+        (subst IsAlike e (row_alike read r h), same))
+    | inr other ↦ absurd (let no : None ≡ Some q = sym (cond-false (are_escapes waiting) (Some r) None other) ∙ is in cc no)
   ]
 
   adds_keys : (r : Row) → BecomesRow by_delete r → IsAlike r → AddsKeys by_delete r

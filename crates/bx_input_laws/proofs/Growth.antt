@@ -14,7 +14,8 @@ use Rattle.bx_input.specs.Known.{fate, becomes_of}
 use Rattle.bx_input.specs.Mouse.{reported}
 use Rattle.bx_input.specs.Table.{Row, paste_end, rows, row_of}
 use Rattle.bx_input.specs.Paste.{pasted_byte, pasted_part, paste_fate}
-use Rattle.bx_input.specs.Filter.{State, Outside, Within, Step, ended_in_paste, paste_step_by, fresh_in_paste, ended, start, at_end, apart_from, fresh, broken, step_by, step, run, filtered}
+use Rattle.bx_input.specs.Filter.{State, Outside, Within, Step, ended_in_paste, paste_step_by, fresh_in_paste, ended, start, at_end, apart_from, fresh, broken}
+use Rattle.bx_input.specs.Filter.{has_two_escapes, plain_step, behind_escape, step_by, step, run, filtered}
 use Rattle.bx_input_laws.specs.Laws.{waiting_in, is_key_byte, GrowsFiveTimes, GrowsByTenThirds}
 use Rattle.bx_input_laws.proofs.Known.{IsKnown, ReportIs, RowIs, StartIs, known_ends}
 use Rattle.bx_input_laws.proofs.ReportFields.{has_lengths, report_fits}
@@ -138,13 +139,25 @@ module _ (by_delete : Bool) where
       let after : Step = fresh by_delete (fate (b ∷ [])) (is_open_after waiting is_open) b in
       omega (arith, length-append waiting after.output, fresh_weighs (fate (b ∷ [])) (is_open_after waiting is_open) b refl)
 
-  outside_weighs : (f : Fate) (waiting : List ℕ) (is_open : Bool) (b : ℕ) → fate (waiting ++ b ∷ []) ≡ f
-      → weight (step_by by_delete f waiting is_open b) ≤ 10 * length waiting + 10 + extra b
-  outside_weighs Waits waiting is_open b h = omega (arith, length_push waiting b)
-  outside_weighs Ends waiting is_open b h =
+  plain_weighs : (f : Fate) (waiting : List ℕ) (is_open : Bool) (b : ℕ) → fate (waiting ++ b ∷ []) ≡ f
+      → weight (plain_step by_delete f waiting is_open b) ≤ 10 * length waiting + 10 + extra b
+  plain_weighs Waits waiting is_open b h = omega (arith, length_push waiting b)
+  plain_weighs Ends waiting is_open b h =
       let read : List ℕ = waiting ++ b ∷ [] in
       omega (arith, length_push waiting b, last_is waiting b, ended_weighs is_open read h)
-  outside_weighs Breaks waiting is_open b h = broken_weighs waiting is_open b
+  plain_weighs Breaks waiting is_open b h = broken_weighs waiting is_open b
+
+  breaks_weigh : (t : Bool) (waiting : List ℕ) (is_open : Bool) (b : ℕ) → has_two_escapes waiting ≡ t
+      → weight (cond t (behind_escape by_delete (drop 1 waiting) b) (broken by_delete waiting is_open b)) ≤ 10 * length waiting + 10 + extra b
+  breaks_weigh false waiting is_open b e = broken_weighs waiting is_open b
+  breaks_weigh true [] is_open b e = absurd (cc e)
+  breaks_weigh true (x ∷ rest) is_open b e = omega (arith, plain_weighs (fate (rest ++ b ∷ [])) rest true b refl)
+
+  outside_weighs : (f : Fate) (waiting : List ℕ) (is_open : Bool) (b : ℕ) → fate (waiting ++ b ∷ []) ≡ f
+      → weight (step_by by_delete f waiting is_open b) ≤ 10 * length waiting + 10 + extra b
+  outside_weighs Waits waiting is_open b h = plain_weighs Waits waiting is_open b h
+  outside_weighs Ends waiting is_open b h = plain_weighs Ends waiting is_open b h
+  outside_weighs Breaks waiting is_open b h = breaks_weigh (has_two_escapes waiting) waiting is_open b refl
 
   pasted_weighs : (f : Fate) (after_return : Bool) (b : ℕ) → weight (fresh_in_paste f after_return b) ≤ 10
   pasted_weighs Waits after_return b = omega arith

@@ -5,6 +5,7 @@ use Rattle.bx_keys.specs.Keys.{decoding}
 use Rattle.bx_keys.specs.declared.key.Key.{Key}
 use Rattle.bx_keys.specs.declared.key.Key.TheVariants.{Insert, Mark, Copy, Cut, Put, Find, FindBack, WordLeft, WordRight, TextStart, TextEnd, Help, Notice}
 use Rattle.bx_keys.specs.declared.key.Key.TheVariants.{EraseWord, DeleteWord, FindNext, Cancel, ErasePoint, NewLine, LineUp, LineDown, PageBack, PageOn, Right, Left, RowHome, RowEnd, Delete}
+use Rattle.bx_keys.specs.declared.key.Key.TheVariants.{Back, Forward, Quit}
 use Rattle.bx_keys.specs.declared.key.Key.TheVariants.{Select, UndoRun, RedoRun, GoTo, Replace, Name, Tell, PasteStart, PasteEnd}
 use Rattle.bx_keys.specs.declared.notice.Notice.TheVariants.{NoSpace, InPlace}
 use Rattle.bx_input.specs.Table.{Row, rows, paste_start, paste_end}
@@ -36,8 +37,42 @@ questions = refl
 pub keys_of_questions : keys (codes "\u{7}\u{b}\u{14}") ≡ GoTo ∷ Name ∷ Tell ∷ []
 keys_of_questions = refl
 
-pub others_go_through : filtered (codes "\u{13}\u{11}\u{2}\u{6}\u{c}\n") ≡ codes "\u{13}\u{11}\u{2}\u{6}\u{c}\n"
+pub others_go_through : filtered (codes "\u{13}\u{11}\u{c}\n") ≡ codes "\u{13}\u{11}\u{c}\n"
 others_go_through = refl
+
+-- CTRL-F and CTRL-B search, and what CTRL gives with the key Q of a Hebrew layout is Quit
+pub searches_and_quit : filtered (codes "\u{6}\u{2}\u{1f}\u{12}\u{17}") ≡ codes "\u{1b}[70~\u{1b}[71~\u{11}\u{1b}[71~\u{1b}[70~"
+searches_and_quit = refl
+
+pub keys_of_searches : keys (codes "\u{6}\u{2}\u{1f}\u{12}\u{17}") ≡ Find ∷ FindBack ∷ Quit ∷ FindBack ∷ Find ∷ []
+keys_of_searches = refl
+
+-- Right and Left with Alt
+pub steps_with_alt : filtered (codes "\u{1b}[1;3C\u{1b}\u{1b}[C\u{1b}[1;3D\u{1b}\u{1b}[D") ≡ codes "\u{6}\u{6}\u{2}\u{2}"
+steps_with_alt = refl
+
+pub keys_of_steps : keys (codes "\u{1b}[1;3C\u{1b}\u{1b}[C\u{1b}[1;3D\u{1b}\u{1b}[D") ≡ Forward ∷ Forward ∷ Back ∷ Back ∷ []
+keys_of_steps = refl
+
+-- F10 and F7, and CTRL with the keys Q and W of a Hebrew layout
+pub f10_and_f7 : filtered (codes "\u{1b}[21~\u{1b}[18~\u{1b}[27;5;47~\u{1b}[27;5;39~") ≡ codes "\u{11}\u{1b}[70~\u{11}\u{1b}[70~"
+f10_and_f7 = refl
+
+abbrev near_sequences : List ℕ
+near_sequences = codes "\u{1b}[1;3A\u{1b}[17~\u{1b}[24~\u{1b}[26~\u{1b}[1;3R\u{1b}[27;5;40~\u{1b}[27;6;39~\u{1b}[27;5;47u"
+
+pub near_sequences_go_through : filtered near_sequences ≡ near_sequences
+near_sequences_go_through = refl
+
+-- the second of two ESC begins a key of its own
+pub escape_and_up : filtered (codes "\u{1b}\u{1b}[A") ≡ codes "\u{1b}\u{1b}[96~"
+escape_and_up = refl
+
+pub a_third_escape : filtered (codes "\u{1b}\u{1b}\u{1b}[C") ≡ codes "\u{1b}\u{18}\u{6}"
+a_third_escape = refl
+
+pub escapes_and_more : filtered (codes "\u{1b}\u{1b}Oq\u{1b}\u{1b}[<0;3;2M\u{1b}\u{1b}\u{7f}\u{1b}\u{1b}a") ≡ codes "\u{1b}\u{18}1\u{1b}\u{1b}[7;2;3t\u{1b}\u{1b}[88~\u{1b}\u{1b}a"
+escapes_and_more = refl
 
 pub erase_keys : keys (0x7F ∷ 0x08 ∷ 0x0D ∷ 0x0A ∷ []) ≡ ErasePoint ∷ ErasePoint ∷ NewLine ∷ Insert 0x0A ∷ []
 erase_keys = refl
@@ -129,6 +164,11 @@ pub no_question_in_a_paste : filtered (paste_start ++ (codes "a\u{1a}\u{7}\u{b}\
     ≡ codes "\u{1b}[90~a\nb\u{1b}[91~\u{1b}[82~\u{1b}[84~"
 no_question_in_a_paste = refl
 
+-- a paste neither searches nor quits
+pub no_search_in_a_paste : filtered (paste_start ++ (codes "\u{6}\u{2}\u{1f}\u{1b}[1;3C\u{1b}\u{1b}[C\u{1b}[21~\u{1b}[18~\u{1b}[27;5;39~" ++ paste_end) ++ codes "\u{6}")
+    ≡ codes "\u{1b}[90~[1;3C[C[21~[18~[27;5;39~\u{1b}[91~\u{1b}[70~"
+no_search_in_a_paste = refl
+
 -- a paste neither erases nor cancels
 pub no_erase_in_a_paste : filtered (paste_start ++ (codes "a\u{7f}\u{8}\r\nb" ++ paste_end) ++ codes "\u{8}")
     ≡ codes "\u{1b}[90~a\nb\u{1b}[91~\u{1b}[94~"
@@ -188,6 +228,20 @@ behind_escape = refl
 
 pub questions_behind_broken : keys (codes "\u{1b}\u{7}\u{1b}[1;5\u{b}\u{1b}[7\u{14}") ≡ GoTo ∷ Name ∷ Tell ∷ []
 questions_behind_broken = refl
+
+pub searches_behind_broken : keys (codes "\u{1b}[1;5\u{6}\u{1b}O\u{6}\u{1b}\u{6}\u{1b}[1;5\u{2}\u{1b}O\u{2}\u{1b}\u{2}\u{1b}[8;2;3\u{6}")
+    ≡ Find ∷ Find ∷ Find ∷ FindBack ∷ FindBack ∷ FindBack ∷ Find ∷ []
+searches_behind_broken = refl
+
+pub quit_behind_broken : filtered (codes "\u{1b}[1;5\u{1f}") ≡ codes "\u{1b}[1;5\u{18}\u{11}"
+quit_behind_broken = refl
+
+pub keys_of_quit_behind_broken : keys (codes "\u{1b}[1;5\u{1f}\u{1b}O\u{1f}\u{1b}\u{1f}\u{1b}[1;5\u{1b}[21~\u{1b}O\u{1b}[21~\u{1b}\u{1b}[21~") ≡ Quit ∷ Quit ∷ Quit ∷ Quit ∷ Quit ∷ Quit ∷ []
+keys_of_quit_behind_broken = refl
+
+pub steps_behind_broken : keys (codes "\u{1b}[1;5\u{1b}[1;3C\u{1b}O\u{1b}[1;3C\u{1b}[8;10\u{1b}\u{1b}[D\u{1b}O\u{1b}\u{1b}[D\u{1b}\u{1b}\u{1b}[D")
+    ≡ Forward ∷ Forward ∷ Back ∷ Back ∷ Back ∷ []
+steps_behind_broken = refl
 
 -- the filter's own CAN is no Cut
 pub own_can : filtered (codes "\u{1b}[1;5\u{1b}Oq") ≡ codes "\u{1b}[1;5\u{18}1"

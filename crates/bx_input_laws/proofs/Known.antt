@@ -9,6 +9,7 @@ use Rattle.std.proofs.lemmas.Bool.Decides.{nat_tests}
 use Rattle.std.proofs.lemmas.Slice.Eq.{bytes_eq-Decides}
 use Rattle.bx_bytes.specs.Pattern.{fate_in, Piece, is_within, matches, matches_any}
 use Rattle.bx_bytes.specs.declared.fate.Fate.TheVariants.{Waits, Ends, Breaks}
+use Rattle.bx_input.specs.Filter.{has_two_escapes}
 use Rattle.bx_input.specs.Known.{fate, becomes_of}
 use Rattle.bx_input.specs.Mouse.{Report, opens_report, is_number_byte, begins_report, report_of, report_fate, reported}
 use Rattle.bx_input.specs.Table.{Row, sequences, exact, paste_start, rows, row_of}
@@ -156,3 +157,32 @@ known_breaks_at x xs b h n = breaks_by x xs b (none_of b n) (breaks_at sequences
 pub known_breaks_behind : (a x : ℕ) (xs : List ℕ) (b : ℕ) → list_all (lacks_behind a b) sequences ≡ true → is_report_byte b ≡ false
     → bytes_eq (x ∷ xs) (a ∷ []) ≡ false → fate (x ∷ (xs ++ b ∷ [])) ≡ Breaks
 known_breaks_behind a x xs b h n other = breaks_by x xs b (none_of b n) (breaks_behind sequences a x xs b h other)
+
+-- ---- two ESC
+
+second_byte : (z : ℕ) → fate (0x1B ∷ 0x1B ∷ z ∷ []) ≡ Waits → z ≡ 0x5B
+second_byte z h = grind (arith, nat_tests)
+
+no_third : (z w : ℕ) (ws : List ℕ) → fate (0x1B ∷ 0x1B ∷ z ∷ w ∷ ws) ≡ Waits → ⊥
+no_third z w [] h = grind (arith, nat_tests)
+no_third z w (v ∷ vs) h = grind (arith, nat_tests)
+
+behind_two : (zs : List ℕ) → fate (0x1B ∷ 0x1B ∷ zs) ≡ Waits → (zs ≡ []) ⊎ (zs ≡ 0x5B ∷ [])
+behind_two [] h = inl refl
+behind_two (z ∷ []) h = inr (ap (λ a. a ∷ []) (second_byte z h))
+behind_two (z ∷ w ∷ ws) h = absurd (no_third z w ws h)
+
+-- of what waits only these begin with two
+pub two_escapes : (waiting : List ℕ) → has_two_escapes waiting ≡ true → fate waiting ≡ Waits → (waiting ≡ 0x1B ∷ 0x1B ∷ []) ⊎ (waiting ≡ 0x1B ∷ 0x1B ∷ 0x5B ∷ [])
+two_escapes [] e h = absurd (cc e)
+two_escapes (x ∷ []) e h = absurd (cc e)
+two_escapes (x ∷ y ∷ zs) e h =
+    let parts = and_parts (nat_eq x 0x1B) (nat_eq y 0x1B) e in
+    let first : x ≡ 0x1B = grind (arith, nat_tests, parts.0) in
+    let second : y ≡ 0x1B = grind (arith, nat_tests, parts.1) in
+    let both : x ∷ y ∷ zs ≡ 0x1B ∷ 0x1B ∷ zs = ap (λ a. a ∷ y ∷ zs) first ∙ ap (λ a. 0x1B ∷ a ∷ zs) second in
+    let waits : fate (0x1B ∷ 0x1B ∷ zs) ≡ Waits = ap fate (sym both) ∙ h in
+    elim (behind_two zs waits) [
+      | inl none ↦ inl (both ∙ ap (λ xs. 0x1B ∷ 0x1B ∷ xs) none)
+      | inr csi ↦ inr (both ∙ ap (λ xs. 0x1B ∷ 0x1B ∷ xs) csi)
+    ]

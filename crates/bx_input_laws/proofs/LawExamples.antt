@@ -5,6 +5,7 @@ use Rattle.std.specs.Prelude.{codes, unwrap_or}
 use Rattle.std.specs.List.{AllByRecursion, list_all}
 use Rattle.std.specs.Str.{chars, IsUtf8}
 use Rattle.std.proofs.lemmas.Bool.{and_left, and_parts, both_ways, not-true, or_from}
+use Rattle.std.proofs.lemmas.List.{append-nil}
 use Rattle.std.proofs.lemmas.List.Folds.{list_all-append}
 use lib.Utf8.{encode}
 use Rattle.bx_bytes.specs.Pattern.{Piece, One, Many, is_within, matches, matches_any}
@@ -119,11 +120,11 @@ pub of_in_any_pieces : ComesInPieces false → (bs : List ℕ) → (run start bs
 of_in_any_pieces law bs e =
     ap (λ (x : Step). x.output) (law start bs (codes "A")) ∙ ap (λ s. (run start bs).output ++ (run s (codes "A")).output) e
 
--- the whole mark that ends a paste never waits
-pub of_waits_for_five : WaitsForFourteen false → (bs : List ℕ) → (run start bs).state ≢ Within paste_end false
-of_waits_for_five law bs e =
-    let short : opens_report paste_end ≡ false → 6 ≤ 5 =
-    subst (λ s. opens_report (waiting_in s) ≡ false → length (waiting_in s) ≤ 5) e (law bs).1 in
+-- the longest sequence never waits whole
+pub of_waits_for_nine : WaitsForFourteen false → (bs : List ℕ) → (run start bs).state ≢ Outside (codes "\u{1b}[27;5;39~") false
+of_waits_for_nine law bs e =
+    let short : opens_report (codes "\u{1b}[27;5;39~") ≡ false → 10 ≤ 9 =
+    subst (λ s. opens_report (waiting_in s) ≡ false → length (waiting_in s) ≤ 9) e (law bs).1 in
     omega (arith, short refl)
 
 -- nor does a mouse report with more than its numbers
@@ -166,7 +167,12 @@ of_rows_become_behind law bs waiting e = law.0 bs waiting true e
 -- an ESC that waits belongs to DELETE
 pub of_rows_become_longer : BecomesRow false (row_at 0x7F) → (bs : List ℕ) → (run start bs).state ≡ Outside (0x1B ∷ []) false
     → run start (bs ++ 0x7F ∷ []) ≡ step_to start ((run start bs).output ++ codes "\u{1b}[88~")
-of_rows_become_longer law bs e = law bs (0x1B ∷ []) false e
+of_rows_become_longer law bs e = law bs (0x1B ∷ []) false e ∙ ap (λ xs. step_to start (xs ++ codes "\u{1b}[88~")) (append-nil (run start bs).output)
+
+-- of two that wait, the second
+pub of_rows_become_second : BecomesRow false (row_at 0x7F) → (bs : List ℕ) → (run start bs).state ≡ Outside (0x1B ∷ 0x1B ∷ []) false
+    → run start (bs ++ 0x7F ∷ []) ≡ step_to start (((run start bs).output ++ 0x1B ∷ []) ++ codes "\u{1b}[88~")
+of_rows_become_second law bs e = law bs (0x1B ∷ 0x1B ∷ []) false e
 
 -- input without ESC and the control characters of the table
 pub of_others_pass : OthersPass false → (bs : List ℕ) → list_all (begins_none sequences) bs ≡ true → list_all no_escape bs ≡ true → filtered bs ≡ bs

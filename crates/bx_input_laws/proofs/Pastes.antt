@@ -277,7 +277,7 @@ module _ (by_delete : Bool) where
   pub pastes_text : PastesText by_delete
   pastes_text bs waiting is_open text at none =
       let first : run start (bs ++ paste_start) ≡ step_to (Within [] false) (filtered bs ++ start_told) =
-      whole_sequence by_delete (λ o. step_to (Within [] false) start_told) (drop 1 paste_start) bs waiting is_open (refl, refl) at in
+      whole_sequence by_delete (λ o. step_to (Within [] false) start_told) (drop 1 paste_start) bs waiting is_open (refl, refl, refl, refl) at in
       ap (run start) (sym (append_assoc bs paste_start (text ++ paste_end)))
       ∙ in_pieces by_delete start (bs ++ paste_start) (text ++ paste_end)
       ∙ ap (λ (x : Step). with_front x.output (run x.state (text ++ paste_end))) first

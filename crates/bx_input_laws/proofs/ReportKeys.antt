@@ -17,7 +17,7 @@ use Rattle.bx_input.proofs.Reports.{waits_more, ends_so}
 use Rattle.bx_input.proofs.Rows.{is_open_after}
 use Rattle.bx_input_laws.specs.Laws.{AddsReportKeys}
 use Rattle.bx_input_laws.proofs.Following.{closed_before}
-use Rattle.bx_input_laws.proofs.Passing.{whole_sequence}
+use Rattle.bx_input_laws.proofs.Passing.{EndsSo, whole_sequence}
 use Rattle.bx_input_laws.proofs.ReportDecoding.{report_sent}
 use Rattle.bx_input_laws.proofs.ReportFields.{has_numbers, has_lengths, numbers_begin, last_apart}
 
@@ -74,8 +74,11 @@ module _ (by_delete : Bool) where
       let opened : Bool = is_open_after waiting is_open in
       let sent : List ℕ = filtered bs in
       let more : List ℕ = apart_from opened (reported r) in
+      let open_ends = report_ends true ps r h in
+      let ends : EndsSo by_delete (λ o. step_to start (apart_from o (reported r))) (0x5B ∷ 0x3C ∷ ps) =
+      (open_ends, report_ends false ps r h, ap (with_front (0x1B ∷ [])) open_ends, ap (with_front (0x1B ∷ [])) open_ends) in
       let runs : run start (bs ++ csi (0x3C ∷ ps)) ≡ with_front sent (step_to start more) =
-      whole_sequence by_delete (λ o. step_to start (apart_from o (reported r))) (0x5B ∷ 0x3C ∷ ps) bs waiting is_open (report_ends true ps r h, report_ends false ps r h) at in
+      whole_sequence by_delete (λ o. step_to start (apart_from o (reported r))) (0x5B ∷ 0x3C ∷ ps) bs waiting is_open ends at in
       let out : filtered (bs ++ csi (0x3C ∷ ps)) ≡ sent ++ more = ap (λ (x : Step). x.output ++ at_end x.state) runs ∙ append-nil (sent ++ more) in
       let is = has_numbers ps r h in
       let keys = report_sent opened (decoding sent).rest r is.is_row is.is_column (rest_waits sent) (closed_before by_delete bs waiting is_open at) in

@@ -1,5 +1,5 @@
 -- The waiting bytes, in any state of the filter.
-use Rattle.std.proofs.Common.{◌≡◌, ℕ, ◌≤◌, inl, inr, Bool, true, false, List, [], ◌∷◌, ◌++◌, length, Option, Some, None, refl, arith}
+use Rattle.std.proofs.Common.{◌≡◌, ℕ, ◌≤◌, inl, inr, Bool, true, false, cond, List, [], ◌∷◌, ◌++◌, length, drop, Option, Some, None, refl, arith}
 use Rattle.std.specs.Str.{bytes_eq}
 use Rattle.std.proofs.lemmas.Bool.{both_ways, false≢true}
 use Rattle.std.proofs.lemmas.List.{length-drop}
@@ -9,7 +9,8 @@ use Rattle.bx_input.specs.Known.{fate, becomes_of}
 use Rattle.bx_input.specs.Mouse.{opens_report}
 use Rattle.bx_input.specs.Table.{sequences, paste_end}
 use Rattle.bx_input.specs.Paste.{paste_fate, paste_sequences}
-use Rattle.bx_input.specs.Filter.{State, Outside, Within, ended_in_paste, paste_step_by, fresh_in_paste, ended, start, fresh, broken, step_by, step, run}
+use Rattle.bx_input.specs.Filter.{State, Outside, Within, Step, ended_in_paste, paste_step_by, fresh_in_paste, ended, start, fresh, broken}
+use Rattle.bx_input.specs.Filter.{has_two_escapes, plain_step, behind_escape, step_by, step, run}
 use Rattle.bx_input_laws.specs.Laws.{waiting_in, WaitsForFourteen}
 use Rattle.bx_input_laws.proofs.Firsts.{waits_says, any_fewer}
 use Rattle.bx_input_laws.proofs.Known.{known_waits}
@@ -34,10 +35,22 @@ module _ (by_delete : Bool) where
   broken_sound : (waiting : List ℕ) (is_open : Bool) (b : ℕ) → IsSound (broken by_delete waiting is_open b).state
   broken_sound waiting is_open b = fresh_outside_sound (fate (b ∷ [])) _ b refl
 
+  plain_sound : (f : Fate) (waiting : List ℕ) (is_open : Bool) (b : ℕ) → fate (waiting ++ b ∷ []) ≡ f → IsSound (plain_step by_delete f waiting is_open b).state
+  plain_sound Waits waiting is_open b h = h
+  plain_sound Ends waiting is_open b h = ended_sound is_open (becomes_of by_delete (waiting ++ b ∷ []))
+  plain_sound Breaks waiting is_open b h = broken_sound waiting is_open b
+
+  either_sound : (t : Bool) (s z : Step) → IsSound s.state → IsSound z.state → IsSound (cond t s z).state
+  either_sound true s z h g = h
+  either_sound false s z h g = g
+
   outside_sound : (f : Fate) (waiting : List ℕ) (is_open : Bool) (b : ℕ) → fate (waiting ++ b ∷ []) ≡ f → IsSound (step_by by_delete f waiting is_open b).state
-  outside_sound Waits waiting is_open b h = h
-  outside_sound Ends waiting is_open b h = ended_sound is_open (becomes_of by_delete (waiting ++ b ∷ []))
-  outside_sound Breaks waiting is_open b h = broken_sound waiting is_open b
+  outside_sound Waits waiting is_open b h = plain_sound Waits waiting is_open b h
+  outside_sound Ends waiting is_open b h = plain_sound Ends waiting is_open b h
+  outside_sound Breaks waiting is_open b h =
+      let rest : List ℕ = drop 1 waiting in
+      either_sound (has_two_escapes waiting) (behind_escape by_delete rest b) (broken by_delete waiting is_open b)
+      (plain_sound (fate (rest ++ b ∷ [])) rest true b refl) (broken_sound waiting is_open b)
 
   after_end_sound : (t : Bool) → IsSound (ended_in_paste t).state
   after_end_sound true = refl
@@ -63,14 +76,14 @@ module _ (by_delete : Bool) where
   run_sound s (b ∷ bs) h = run_sound (step by_delete s b).state bs (step_sound s b)
 
   abbrev IsFew : List ℕ → Type 0
-  IsFew waiting = (length waiting ≤ 14) × (opens_report waiting ≡ false → length waiting ≤ 5)
+  IsFew waiting = (length waiting ≤ 14) × (opens_report waiting ≡ false → length waiting ≤ 9)
 
   fourteen : (s : State) → IsSound s → IsFew (waiting_in s)
   fourteen (Outside waiting is_open) h = elim (known_waits waiting h) [
     | inl report ↦ (omega (arith, report.few, length-drop 3 waiting), λ e. absurd (both_ways (opens_report waiting) e report.opens))
     | inr other ↦ (
-        let five = any_fewer sequences 6 waiting refl other.1.begins other.1.not_whole in
-        (omega (arith, five), λ e. omega (arith, five)))
+        let nine = any_fewer sequences 10 waiting refl other.1.begins other.1.not_whole in
+        (omega (arith, nine), λ e. omega (arith, nine)))
   ]
   fourteen (Within waiting after_return) h =
       let ucd = waits_says paste_sequences waiting h.0 in

@@ -1,5 +1,5 @@
 -- Output is at most two thirds longer than the input, where no sequence of a short row comes.
-use Rattle.std.proofs.Common.{◌≡◌, ℕ, ◌+◌, ◌*◌, ◌≤◌, inl, inr, Bool, true, false, ◌&&◌, ◌||◌, nat_le, List, [], ◌∷◌, ◌++◌, length, drop, Option, Some, None}
+use Rattle.std.proofs.Common.{◌≡◌, ℕ, ◌+◌, ◌*◌, ◌≤◌, inl, inr, Bool, true, false, ◌&&◌, ◌||◌, cond, nat_le, List, [], ◌∷◌, ◌++◌, length, drop, Option, Some, None}
 use Rattle.std.proofs.Common.{refl, ap, sym, ◌∙◌, append_assoc, subst, arith, length-append}
 use Rattle.std.specs.List.{list_all}
 use Rattle.std.specs.Str.{bytes_eq}
@@ -12,7 +12,8 @@ use Rattle.bx_input.specs.Known.{fate, becomes_of}
 use Rattle.bx_input.specs.Mouse.{reported}
 use Rattle.bx_input.specs.Table.{Row, paste_end, row_of, rows}
 use Rattle.bx_input.specs.Paste.{pasted_part, paste_fate}
-use Rattle.bx_input.specs.Filter.{State, Outside, Within, Step, ended_in_paste, paste_step_by, fresh_in_paste, ended, start, at_end, apart_from, fresh, step_by, step, run}
+use Rattle.bx_input.specs.Filter.{State, Outside, Within, Step, ended_in_paste, paste_step_by, fresh_in_paste, ended, start, at_end, apart_from, fresh, broken}
+use Rattle.bx_input.specs.Filter.{has_two_escapes, plain_step, behind_escape, step_by, step, run}
 use Rattle.bx_input_laws.specs.Laws.{waiting_in, is_short, has_short, HasNoShort, GrowsByTwoThirds}
 use Rattle.bx_input_laws.proofs.Growth.{found, byte_is_one, part_is_shorter, end_is_shorter}
 use Rattle.bx_input_laws.proofs.Known.{IsKnown, ReportIs, RowIs, StartIs, known_ends}
@@ -149,12 +150,12 @@ module _ (by_delete : Bool) where
   fresh_weighs Ends is_open b h none = ended_weighs is_open (b ∷ []) h (none_whole (b ∷ []) none)
   fresh_weighs Breaks is_open b h none = omega arith
 
-  outside_weighs : (f : Fate) (waiting : List ℕ) (is_open : Bool) (b : ℕ) → fate (waiting ++ b ∷ []) ≡ f → NoShort (waiting ++ b ∷ [])
-      → weight (step_by by_delete f waiting is_open b) ≤ 5 * length (waiting ++ b ∷ [])
-  outside_weighs Waits waiting is_open b h none = omega arith
-  outside_weighs Ends waiting is_open b h none =
+  plain_weighs : (f : Fate) (waiting : List ℕ) (is_open : Bool) (b : ℕ) → fate (waiting ++ b ∷ []) ≡ f → NoShort (waiting ++ b ∷ [])
+      → weight (plain_step by_delete f waiting is_open b) ≤ 5 * length (waiting ++ b ∷ [])
+  plain_weighs Waits waiting is_open b h none = omega arith
+  plain_weighs Ends waiting is_open b h none =
       let read : List ℕ = waiting ++ b ∷ [] in ended_weighs is_open read h (none_whole read none)
-  outside_weighs Breaks waiting is_open b h none =
+  plain_weighs Breaks waiting is_open b h none =
       let opened : Bool = is_open_after waiting is_open in
       let after : Step = fresh by_delete (fate (b ∷ [])) opened b in
       omega (
@@ -163,6 +164,19 @@ module _ (by_delete : Bool) where
         length-append waiting after.output,
         fresh_weighs (fate (b ∷ [])) opened b refl (none_behind waiting (b ∷ []) none),
       )
+
+  breaks_weigh : (t : Bool) (waiting : List ℕ) (is_open : Bool) (b : ℕ) → has_two_escapes waiting ≡ t → fate (waiting ++ b ∷ []) ≡ Breaks
+      → NoShort (waiting ++ b ∷ []) → weight (cond t (behind_escape by_delete (drop 1 waiting) b) (broken by_delete waiting is_open b)) ≤ 5 * length (waiting ++ b ∷ [])
+  breaks_weigh false waiting is_open b e h none = plain_weighs Breaks waiting is_open b h none
+  breaks_weigh true [] is_open b e h none = absurd (cc e)
+  breaks_weigh true (x ∷ rest) is_open b e h none =
+      omega (arith, plain_weighs (fate (rest ++ b ∷ [])) rest true b refl (none_behind (x ∷ []) (rest ++ b ∷ []) none))
+
+  outside_weighs : (f : Fate) (waiting : List ℕ) (is_open : Bool) (b : ℕ) → fate (waiting ++ b ∷ []) ≡ f → NoShort (waiting ++ b ∷ [])
+      → weight (step_by by_delete f waiting is_open b) ≤ 5 * length (waiting ++ b ∷ [])
+  outside_weighs Waits waiting is_open b h none = plain_weighs Waits waiting is_open b h none
+  outside_weighs Ends waiting is_open b h none = plain_weighs Ends waiting is_open b h none
+  outside_weighs Breaks waiting is_open b h none = breaks_weigh (has_two_escapes waiting) waiting is_open b refl h none
 
   step_weighs : (s : State) (b : ℕ) → NoShort (waiting_in s ++ b ∷ []) → weight (step by_delete s b) ≤ 5 * length (waiting_in s ++ b ∷ [])
   step_weighs (Outside waiting is_open) b none = outside_weighs (fate (waiting ++ b ∷ [])) waiting is_open b refl none
@@ -173,10 +187,21 @@ module _ (by_delete : Bool) where
   fresh_left Ends is_open b = ended_left is_open (becomes_of by_delete (b ∷ [])) (b ∷ [])
   fresh_left Breaks is_open b = none_left (b ∷ [])
 
+  plain_left : (f : Fate) (waiting : List ℕ) (is_open : Bool) (b : ℕ) → EndsBy (waiting ++ b ∷ []) (waiting_in (plain_step by_delete f waiting is_open b).state)
+  plain_left Waits waiting is_open b = all_left (waiting ++ b ∷ [])
+  plain_left Ends waiting is_open b = ended_left is_open (becomes_of by_delete (waiting ++ b ∷ [])) (waiting ++ b ∷ [])
+  plain_left Breaks waiting is_open b = behind waiting (b ∷ []) _ (fresh_left (fate (b ∷ [])) (is_open_after waiting is_open) b)
+
+  breaks_left : (t : Bool) (waiting : List ℕ) (is_open : Bool) (b : ℕ) → has_two_escapes waiting ≡ t
+      → EndsBy (waiting ++ b ∷ []) (waiting_in (cond t (behind_escape by_delete (drop 1 waiting) b) (broken by_delete waiting is_open b)).state)
+  breaks_left false waiting is_open b e = plain_left Breaks waiting is_open b
+  breaks_left true [] is_open b e = absurd (cc e)
+  breaks_left true (x ∷ rest) is_open b e = behind (x ∷ []) (rest ++ b ∷ []) _ (plain_left (fate (rest ++ b ∷ [])) rest true b)
+
   outside_left : (f : Fate) (waiting : List ℕ) (is_open : Bool) (b : ℕ) → EndsBy (waiting ++ b ∷ []) (waiting_in (step_by by_delete f waiting is_open b).state)
-  outside_left Waits waiting is_open b = all_left (waiting ++ b ∷ [])
-  outside_left Ends waiting is_open b = ended_left is_open (becomes_of by_delete (waiting ++ b ∷ [])) (waiting ++ b ∷ [])
-  outside_left Breaks waiting is_open b = behind waiting (b ∷ []) _ (fresh_left (fate (b ∷ [])) (is_open_after waiting is_open) b)
+  outside_left Waits waiting is_open b = plain_left Waits waiting is_open b
+  outside_left Ends waiting is_open b = plain_left Ends waiting is_open b
+  outside_left Breaks waiting is_open b = breaks_left (has_two_escapes waiting) waiting is_open b refl
 
   step_left : (s : State) (b : ℕ) → EndsBy (waiting_in s ++ b ∷ []) (waiting_in (step by_delete s b).state)
   step_left (Outside waiting is_open) b = outside_left (fate (waiting ++ b ∷ [])) waiting is_open b

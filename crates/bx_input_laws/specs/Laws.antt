@@ -43,10 +43,14 @@ keys_of_report r = if r.is_release then [] else pressed_keys r.button (Point (di
 abbrev pub HasNone : List (List Piece) → List ℕ → Type 0
 HasNone patterns bs = (front middle back : List ℕ) → bs ≡ front ++ (middle ++ back) → matches_any patterns middle ≡ false
 
--- the row of ESC and a sequence, if ESC is all that waits
+-- one ESC waits, or two do, and no more
+abbrev pub are_escapes : List ℕ → Bool
+are_escapes waiting = bytes_eq waiting (0x1B ∷ []) || bytes_eq waiting (0x1B ∷ 0x1B ∷ [])
+
+-- the row of ESC and a sequence, if only ESC waits
 abbrev pub longer_by : List ℕ → Option Row → Option Row
 longer_by waiting None = None
-longer_by waiting (Some r) = if bytes_eq waiting (0x1B ∷ []) then Some r else None
+longer_by waiting (Some r) = if are_escapes waiting then Some r else None
 
 -- the longer row, if there is one, else the row itself
 abbrev pub row_behind : Row → Option Row → Row
@@ -101,22 +105,23 @@ module _ (erases_by_delete : Bool) where
       let first : Step = run s bs in
       run s (bs ++ more) ≡ with_front first.output (run first.state more)
 
-  -- at most fourteen bytes wait: CSI < and the numbers of a mouse report. Of all else at most five do (CSI 200, the longest beginning
-  -- of a sequence of the table or of a paste's start).
+  -- at most fourteen bytes wait: CSI < and the numbers of a mouse report. Of all else at most nine do (CSI 27;5;39, the longest
+  -- beginning of a sequence of the table or of a paste's start).
   abbrev pub WaitsForFourteen : Type 0
   WaitsForFourteen = (bs : List ℕ) →
       let waiting : List ℕ = waiting_in (run start bs).state in
-      (length waiting ≤ 14) × (opens_report waiting ≡ false → length waiting ≤ 5)
+      (length waiting ≤ 14) × (opens_report waiting ≡ false → length waiting ≤ 9)
 
   -- the row that the bytes of `r` complete where an ESC waits before them, if the table has one: of ESC and DELETE
   abbrev pub longer_row : List ℕ → Row → Option Row
   longer_row waiting r = longer_by waiting (row_of erases_by_delete (0x1B ∷ r.sequence))
 
   -- the output for input and then the sequence of `r`: if there is a longer row, its output takes the place of the ESC that
-  -- waits
+  -- waits, or of the second one
   abbrev pub became : List ℕ → List ℕ → Bool → Row → Option Row → List ℕ
   became bs waiting is_open r None = filtered bs ++ apart_from (is_open || not (is_empty waiting)) r.becomes
-  became bs waiting is_open r (Some longer) = (run start bs).output ++ apart_from is_open longer.becomes
+  became bs waiting is_open r (Some longer) =
+      ((run start bs).output ++ drop 1 waiting) ++ apart_from (is_open || not (is_empty (drop 1 waiting))) longer.becomes
 
   -- A sequence of the table after input that ends outside a paste: the waiting bytes go out unchanged, and then the row's bytes.
   -- With an ESC that belongs to a longer row, the bytes of that row go out.

@@ -14,7 +14,7 @@ pub fn in_any_pieces()
     ensures { (erases_by_delete : Bool) → ComesInPieces erases_by_delete }
 {}
 
-/// At most fourteen bytes wait, and at most five that begin no mouse report.
+/// At most fourteen bytes wait, and at most nine that begin no mouse report.
 pub fn waits_for_fourteen()
     ensures { (erases_by_delete : Bool) → WaitsForFourteen erases_by_delete }
 {}

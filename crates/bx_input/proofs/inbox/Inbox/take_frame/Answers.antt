@@ -1,7 +1,7 @@
-use Rattle.std.proofs.Common.{rules}
-use Rattle.bx_input.specs.Frames.{Frame}
+use Rattle.std.proofs.Common.{◌≡◌, Some, [], arith, rules}
+use Rattle.bx_input.specs.Frames.{Frame, first_frame}
 use Rattle.bx_input.specs.Heard.{Reading}
-use Rattle.bx_input.proofs.Hearing.{takes}
+use Rattle.bx_input.proofs.Hearing.{takes, whole}
 use Rattle.bx_input.proofs.inbox.Inbox.take_frame.Goals as goal
 
 pub returns-clause-left : goal.returns-clause-left
@@ -14,3 +14,10 @@ returns-clause-left c =
       is_over = c.self.inside.is_over;
     } in
     takes c.args.self.now new f c.requires.ready c.requires.open (search rules) (search rules) (search rules) (search rules) (search rules)
+
+pub drain-requires-clause-in_bounds : goal.drain-requires-clause-in_bounds
+drain-requires-clause-in_bounds c =
+    let f : Frame = record { letter = c.in-Some.frame.letter; bytes = c.in-Some.frame.bytes.now } in
+    let is : first_frame c.as_slice.result.now ≡ Some f = c.in-Some.ensures in
+    let fits = (whole c.as_slice.result.now [] f is).fits in
+    omega (arith, fits, c.as_slice.ensures.len)
