@@ -33,8 +33,10 @@ static char *ask(const char *question) {
         length += count > 0 ? (size_t)count : 0;
         line[length] = 0;
     }
-    if (!answer) put_text(terminal_line, "\n");
-    if (!answer) return NULL;
+    if (!answer) {
+        put_text(terminal_line, "\n");
+        return NULL;
+    }
     while (isspace((unsigned char)*answer)) answer++;
     for (char *at = answer; *at; at++) *at = *at >= 'A' && *at <= 'Z' ? (char)(*at - 'A' + 'a') : *at;
     for (size_t length = strlen(answer); length > 0 && isspace((unsigned char)answer[length - 1]);) answer[--length] = 0;
