@@ -43,8 +43,8 @@ int find_file(struct edit *edit, const char *typed, bool is_lost) {
     return GO_ON;
 }
 
-const char *find_versions(const struct edit *edit, char words[MOST_WORDS]) {
-    const char *files[] = {edit->programs->editor, edit->tables.classes, edit->tables.brackets, edit->tables.mirroring};
+const char *find_versions(const struct programs *programs, const struct tables *tables, char words[MOST_WORDS]) {
+    const char *files[] = {programs->editor, tables->classes, tables->brackets, tables->mirroring};
     return versions_look(EDITOR_VERSION, files, sizeof files / sizeof *files, words);
 }
 

@@ -65,7 +65,7 @@ struct edit {
 
 /* Writes down what a replay depends on (versions_look in session.h). Returns NULL; or the program or table that cannot be examined,
  * with errno set. */
-const char *find_versions(const struct edit *edit, char words[MOST_WORDS]);
+const char *find_versions(const struct programs *programs, const struct tables *tables, char words[MOST_WORDS]);
 
 /* Opens and judges FILE, puts its text back after saves that were cut off, and refuses what cannot be edited, unless it is forced.
  * `typed` is FILE's name. */
@@ -118,7 +118,7 @@ enum replayed { REPLAY_SAME, REPLAY_KNOWN, REPLAY_FOREIGN, REPLAY_UNREADABLE, RE
 enum replayed replay(struct edit *edit, const struct session *session, int *text, int64_t limit);
 
 /* The same without a replay, for a session that left its text at its end. */
-enum replayed compare_text(const struct edit *edit, const struct session *session);
+enum replayed compare_text(const struct file *file, const struct session *session);
 
 /* Ends the session after the program's end, and reports what is kept and what is lost. Returns the exit status. */
 int end_session(struct edit *edit);

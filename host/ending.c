@@ -32,11 +32,11 @@ static enum replayed replayed_of(const struct said *said, int status) {
 }
 
 /* Whether FILE has the text that it had when a session with an unsaved text began. */
-static bool has_known_text(const struct edit *edit, const struct session *session) {
+static bool has_known_text(const struct file *file, const struct session *session) {
     struct sum found;
     if (!session->about.has_known) return false;
     sum_begin(&found);
-    return (edit->file.text < 0 || sum_file(edit->file.text, &found)) && is_same_sum(&found, &session->about.known);
+    return (file->text < 0 || sum_file(file->text, &found)) && is_same_sum(&found, &session->about.known);
 }
 
 enum replayed replay(struct edit *edit, const struct session *session, int *text, int64_t limit) {
@@ -66,21 +66,21 @@ enum replayed replay(struct edit *edit, const struct session *session, int *text
     enum replayed replayed = replayed_of(&run.said, status);
     if (replayed == REPLAY_UNREADABLE || replayed == REPLAY_FAILED) close(made);
     else *text = made;
-    return replayed == REPLAY_FOREIGN && has_known_text(edit, session) ? REPLAY_KNOWN : replayed;
+    return replayed == REPLAY_FOREIGN && has_known_text(&edit->file, session) ? REPLAY_KNOWN : replayed;
 }
 
 /* Whether FILE has exactly the text of a file of the session. */
-static bool is_in_file(const struct edit *edit, const struct session *session, const char *name) {
-    int file = session_open(session, name);
-    bool is_same = file >= 0 && judge_file(file, edit->file.text) == FILE_WHOLE;
-    if (file >= 0) close(file);
+static bool is_in_part(const struct file *file, const struct session *session, const char *name) {
+    int part = session_open(session, name);
+    bool is_same = part >= 0 && judge_file(part, file->text) == FILE_WHOLE;
+    close_one(&part);
     return is_same;
 }
 
-enum replayed compare_text(const struct edit *edit, const struct session *session) {
-    if (!edit->file.stamp.is_there) return REPLAY_KNOWN;
-    if (is_in_file(edit, session, SNAPSHOT_NAME)) return REPLAY_SAME;
-    bool is_known = is_in_file(edit, session, TEXT_NAME) || is_in_file(edit, session, SAVED_NAME) || has_known_text(edit, session);
+enum replayed compare_text(const struct file *file, const struct session *session) {
+    if (!file->stamp.is_there) return REPLAY_KNOWN;
+    if (is_in_part(file, session, SNAPSHOT_NAME)) return REPLAY_SAME;
+    bool is_known = is_in_part(file, session, TEXT_NAME) || is_in_part(file, session, SAVED_NAME) || has_known_text(file, session);
     return is_known ? REPLAY_KNOWN : REPLAY_FOREIGN;
 }
 
@@ -91,8 +91,8 @@ enum replayed compare_text(const struct edit *edit, const struct session *sessio
 enum { REPLAY_MS = 2000, REPLAY_BY_SIGNAL_MS = 1000, LONGEST = 200000, LONGEST_BY_SIGNAL = 20000 };
 
 /* Whether the last fault that the program reported is of this kind; gives its value. */
-static bool is_fault(const struct edit *edit, const char *kind, const char **value) {
-    const char *fault = edit->run.said.fault;
+static bool is_fault(const struct said *said, const char *kind, const char **value) {
+    const char *fault = said->fault;
     size_t length = strlen(kind);
     if (strncmp(fault, kind, length) != 0 || (fault[length] != 0 && fault[length] != ' ')) return false;
     *value = fault[length] ? fault + length + 1 : "";
@@ -100,24 +100,24 @@ static bool is_fault(const struct edit *edit, const char *kind, const char **val
 }
 
 /* The refusal of FILE, or of a table, with which the program ended; NULL if it opened the text. */
-static const char *refusal_of(const struct edit *edit, bool *is_of_file) {
+static const char *refusal_of(const struct file *file, const struct said *said, bool *is_of_file) {
     const char *value;
     *is_of_file = true;
-    if (is_fault(edit, "not-utf8", &value)) {
+    if (is_fault(said, "not-utf8", &value)) {
         unsigned long long text_line = strtoull(value, NULL, 10);
-        return file_message(&edit->file, check_encoding(&edit->file), text_line > 0 ? text_line : 1);
+        return file_message(file, check_encoding(file), text_line > 0 ? text_line : 1);
     }
-    if (is_fault(edit, "too-long", &value)) return file_message(&edit->file, CAUSE_TOO_LONG, 0);
-    if (is_fault(edit, "unreadable", &value)) return file_message(&edit->file, CAUSE_UNREADABLE, 0);
+    if (is_fault(said, "too-long", &value)) return file_message(file, CAUSE_TOO_LONG, 0);
+    if (is_fault(said, "unreadable", &value)) return file_message(file, CAUSE_UNREADABLE, 0);
     *is_of_file = false;
-    return is_fault(edit, "tables", &value) ? value : NULL;
+    return is_fault(said, "tables", &value) ? value : NULL;
 }
 
 /* The fault with which the program ended; NULL if it reported none. */
-static const char *fault_of(const struct edit *edit) {
+static const char *fault_of(const struct said *said) {
     const char *value;
-    if (is_fault(edit, "memory", &value)) return "out of memory";
-    switch (edit->run.said.end) {
+    if (is_fault(said, "memory", &value)) return "out of memory";
+    switch (said->end) {
     case END_UNSAVED: return "input ended before saving";
     case END_OUTPUT: return "output failed";
     case END_INPUT: return "input failed";
@@ -127,34 +127,30 @@ static const char *fault_of(const struct edit *edit) {
 }
 
 /* Reports why the program ended: in its name, or in the host's if FILE is refused. Returns whether FILE or a table was refused. */
-static bool tell_fault_of(const struct edit *edit) {
+static bool tell_fault_of(const struct file *file, const struct said *said) {
     bool is_of_file;
-    const char *refusal = refusal_of(edit, &is_of_file), *fault = refusal ? refusal : fault_of(edit);
+    const char *refusal = refusal_of(file, said, &is_of_file), *fault = refusal ? refusal : fault_of(said);
     if (refusal && is_of_file) warn("%s", refusal);
     else if (fault) put_text(STDERR_FILENO, text_of("bidi_edit: %s\n", fault));
     return refusal != NULL;
 }
 
 /* Opens FILE as it is now, if it is a plain file. */
-static int open_now(const struct edit *edit, struct stat *look) {
-    if (edit->file.is_lost) return -1;
-    int file = openat(edit->file.folder, edit->file.name, O_RDONLY | O_NONBLOCK | O_NOFOLLOW | O_CLOEXEC);
-    if (file >= 0 && (fstat(file, look) != 0 || !S_ISREG(look->st_mode))) {
-        close(file);
-        return -1;
-    }
-    return file;
+static int open_now(const struct file *file, struct stat *look) {
+    int now = file->is_lost ? -1 : openat(file->folder, file->name, O_RDONLY | O_NONBLOCK | O_NOFOLLOW | O_CLOEXEC);
+    if (now >= 0 && (fstat(now, look) != 0 || !S_ISREG(look->st_mode))) close_one(&now);
+    return now;
 }
 
 /* Whether FILE is there now. */
-static bool is_there_now(const struct edit *edit) {
+static bool is_there_now(const struct file *file) {
     struct file_stamp stamp;
-    return stamp_again(&edit->file, &stamp) && stamp.is_there;
+    return stamp_again(file, &stamp) && stamp.is_there;
 }
 
 /* Says where the recovered text is, if it was saved as another file. */
 static void tell_aside(const struct edit *edit) {
-    if (edit->aside_of && is_there_now(edit))
+    if (edit->aside_of && is_there_now(&edit->file))
         warn("%s was changed on disk, so the recovered text is in %s", shown(edit->aside_of), shown(edit->file.typed));
 }
 
@@ -208,7 +204,7 @@ static const char *cause_of_lost(const struct edit *edit) {
 /* Whether the tables and programs are those with which the session began. */
 static bool has_same_versions(const struct edit *edit) {
     char versions[MOST_WORDS];
-    return !find_versions(edit, versions) && strcmp(versions, edit->versions) == 0;
+    return !find_versions(edit->programs, &edit->tables, versions) && strcmp(versions, edit->versions) == 0;
 }
 
 /* Puts an open text into the session. If this fails, another version of the editor can only replay the keys. */
@@ -231,9 +227,9 @@ static bool leave_text(struct edit *edit) {
     if (session_journal_size(session) > (end_signal ? LONGEST_BY_SIGNAL : LONGEST) || !has_same_versions(edit)) return false;
     /* FILE as it is now */
     if (edit->file.text >= 0) close(edit->file.text);
-    edit->file.text = open_now(edit, &look);
+    edit->file.text = open_now(&edit->file, &look);
     leave_out_mark(&edit->file.text);
-    edit->file.stamp.is_there = is_there_now(edit);
+    edit->file.stamp.is_there = is_there_now(&edit->file);
     enum replayed found = replay(edit, session, &text, within(end_signal ? REPLAY_BY_SIGNAL_MS : REPLAY_MS));
     if (text < 0) return false;
     put_snapshot(session, text);
@@ -289,7 +285,7 @@ static bool leads_to_path(const char *typed, const char *path) {
 static void tell_kept(const struct edit *edit, const char *what, const char *behind) {
     const char *cut = edit->facts.is_journal_lost ? " up to where its journal could not be written" : "";
     /* what is not saved beside FILE is found under FILE's name */
-    const char *typed = edit->aside_of && !is_there_now(edit) ? edit->aside_of : edit->file.typed;
+    const char *typed = edit->aside_of && !is_there_now(&edit->file) ? edit->aside_of : edit->file.typed;
     const char *path = edit->moved ? edit->moved : edit->file.path;
     bool is_found = !is_folder_gone(&edit->file) && !edit->moved && (typed == edit->aside_of || leads_to_path(typed, path));
     const char *where = is_found ? "" : text_of(" in %s", shown(edit->session.path));
@@ -337,7 +333,7 @@ static void tell_signal(int status) {
 }
 
 int end_session(struct edit *edit) {
-    bool is_refused = tell_fault_of(edit) || !edit->run.said.is_opened;
+    bool is_refused = tell_fault_of(&edit->file, &edit->run.said) || !edit->run.said.is_opened;
     enum left_how how = left_how(edit->run.said.end, is_refused);
     tell_aside(edit);
     if (!session_is_none(&edit->session)) {

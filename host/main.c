@@ -199,7 +199,7 @@ static int edit_by(const struct call *call, const struct programs *programs) {
     const char *cause = find_tables(&edit.tables, programs->tables);
     if (cause) return refuse(STATUS_FAULT, cause);
     edit.programs = programs;
-    const char *lacking = find_versions(&edit, edit.versions);
+    const char *lacking = find_versions(programs, &edit.tables, edit.versions);
     int error = errno;
     if (lacking) return refuse(STATUS_FAULT, text_of("the editor needs %s, which cannot be read: %s", shown(lacking), strerror(error)));
     edit.call = call;

@@ -141,7 +141,7 @@ static int take_by_keys(struct edit *edit, struct session *session) {
 static int take_by_text(struct edit *edit, struct session *session) {
     struct session renewed;
     struct sum known;
-    enum replayed found = compare_text(edit, session);
+    enum replayed found = compare_text(&edit->file, session);
     if (found == REPLAY_SAME) return end_where_same(edit, session);
     tell("that session was recorded by another version of the editor or of Unicode's tables: its text is recovered, but not its undo history");
     sum_begin(&known);

@@ -31,6 +31,9 @@ command -v python3 >/dev/null || skip 'there is no python3'
 
 export LC_ALL=C.UTF-8
 folder=$(mktemp -d) || exit 1
+# shellcheck source=tests/own_state.sh
+. "$top/tests/own_state.sh"
+own_state "$folder"
 socket=bidi-edit-$$
 mounted='' skipped=0
 clean_up() {

@@ -59,11 +59,6 @@ find_programs() {
     if [ -z "$start" ] || [ "$(host_digest)" != "$(noted host)" ]; then compile_host; fi
 }
 
-# Sets the times of all files.
-set_times() { # FOLDER
-    find "$1" -exec touch -h -d "@$SOURCE_DATE_EPOCH" {} +
-}
-
 # ---- the package
 
 # Prints the newest version of the C library that the programs require.
@@ -137,7 +132,7 @@ make_package() {
     cp "$top/tools/package/postinst" "$top/tools/package/prerm" "$package/DEBIAN/"
     chmod -R u=rwX,go=rX "$package"
     chmod 755 "$package/DEBIAN/postinst" "$package/DEBIAN/prerm"
-    set_times "$package"
+    find "$package" -exec touch -h -d "@$SOURCE_DATE_EPOCH" {} +
     # the same compression, however many processors there are
     DPKG_DEB_THREADS_MAX=1 dpkg-deb --root-owner-group -Zxz --build "$package" "$target/bidi-edit_$version-1_amd64.deb" >/dev/null
 }
@@ -146,8 +141,7 @@ make_package() {
 make_tar() {
     mkdir "$folder/tar"
     mv "$folder/tree" "$folder/tar/bidi-edit-$version"
-    set_times "$folder/tar"
-    tar -C "$folder/tar" --format=gnu --owner=root:0 --group=root:0 --numeric-owner --sort=name -cf - "bidi-edit-$version" |
+    tar -C "$folder/tar" --format=gnu --mtime="@$SOURCE_DATE_EPOCH" --owner=root:0 --group=root:0 --numeric-owner --sort=name -cf - "bidi-edit-$version" |
         gzip -9n >"$target/bidi-edit_${version}_amd64.tar.gz"
 }
 

@@ -1,10 +1,10 @@
 """sessions_faults.py HOST [NAME..]: checks from outside that a running session is kept whatever is done to FILE, and that it is found
 again. HOST is an installed bidi-edit, or the host alone, which gets typist.py in place of the program. Exit status 1: a case
 failed."""
-import glob, os, re, shutil, signal, subprocess, sys, tempfile, termios, threading, time
+import glob, os, re, shutil, signal, subprocess, sys, termios, threading, time
 HERE = os.path.dirname(os.path.abspath(__file__))
 sys.path.insert(0, HERE)
-from checks import Fault, Report, Skipped, needs, try_case
+from checks import Fault, Report, Skipped, lasting_folder, needs, try_case
 from terminals import Run, become_reaper
 
 QUIT = b'\x11'
@@ -310,8 +310,7 @@ def main():
     become_reaper()
     for number in (signal.SIGPIPE, signal.SIGXFSZ):
         signal.signal(number, signal.SIG_DFL)
-    # not in memory, where FILE would get no session
-    folder = tempfile.mkdtemp(prefix='sessions.', dir='/var/lib' if os.geteuid() == 0 else os.path.expanduser('~'))
+    folder = lasting_folder('sessions')
     report = Report()
     try:
         host = installed(os.path.abspath(sys.argv[1]), f'{folder}/tree')

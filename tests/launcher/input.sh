@@ -214,7 +214,7 @@ check_marks() {
     same 'input, a paste of tmux' "$(settled_journal | cat -v)" "$(printf '^[[90~one\ntwo^[[91~')"
     end_kept 'input, marks'
     has 'input, pastes asked for' "$(written)" '^[[?2004h'
-    has 'input, and given back' "$(written)" '^[[?2004l^[[0m'
+    has 'input, and given back' "$(written)" '^[[?2004l^[[?1002l^[[?1006l^[[0m'
 }
 
 # Tests the editor itself: Home from rxvt, F2, and a lone Escape before a paste of bytes that look like keys. `none` is not there.

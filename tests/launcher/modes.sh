@@ -15,7 +15,7 @@ check_modes() {
     finish modes 7 50
     has 'modes, kept at the start' "$(written)" '^[7^[[?1s^[[?1036s^[[22;0t^[[?1049h'
     has 'modes, told at the start' "$(written)" '^[[?1049h^[[?1l^[(B^O^[[4l^[[?6l^[[r^[[?7h^[[?25h^[[8l^[[1 k^[[?1036h'
-    has 'modes, told at the end' "$(written)" '^[[0m^[[?1r^[[?1036r^[[?25h^[[0 k^[[8h^[[23;0t^[[?1049l'
+    has 'modes, told at the end' "$(written)" '^[[0m^[[?1r^[[?1036r^[[?25h^[[0 k^[[8h^[Ptmux;^[^[[?1036r^[\^[[23;0t^[[?1049l'
 }
 
 # Whether the terminal reports presses and drags, and reports in numbers; 1 is on.
@@ -33,13 +33,17 @@ check_mouse_modes() {
     same 'modes, and no more at the end' "$(reports)" '0 0'
     finish 'modes, the mouse' 7 50
     has 'modes, the mouse: told at the start' "$(written)" '^[[?2004h^[[?1006h^[[?1002h'
-    has 'modes, the mouse: told at the end' "$(written)" '^[[?1002l^[[?1006l^[[?2004l'
+    has 'modes, the mouse: told at the end' "$(written)" '^[[?1002l^[[?1006l'
     start 8 50 "$recorder" f
     wait_for 50 test -e "$folder/record"
+    # the watcher restores the terminal, while the shell goes on
+    cleanup="until [ \"\$(stty -g)\" = \"\$(cat '$folder/before')\" ]; do sleep 0.1; done"
+    rows_told='bidi-edit was killed: bidi-edit --recover f restores unsaved text'
     send_signal KILL ".*bin/bidi-edit"
-    wait_for 50 is_over
+    wait_for 50 shows 'was killed'
     same 'modes, no reports after a kill' "$(reports)" '0 0'
     finish 'modes, the host killed' 137 50
+    cleanup='' rows_told=''
     start 8 50 "$recorder" --no-mouse f
     wait_for 50 test -e "$folder/record"
     same 'modes, --no-mouse' "$(reports)" '0 0'
@@ -147,24 +151,18 @@ check_title() {
     setup=''
 }
 
-# The terminal around tmux, which the host tells to stop reordering (8l) and to go on with it (8h): a pane `outer` of the same
-# tmux server, in which a client shows the session `keep`, the one that the callers of these parts hold open.
+# The host writes nothing to the terminal around tmux, so that it tells it neither to stop reordering (8l) nor to go on with it (8h): a
+# pane `outer` of the same tmux server, in which a client shows the session `keep`, the one that the callers of these parts hold open.
 check_outer() {
-    start 8 50 "$recorder" f
-    type_keys C-q
-    finish 'outer, none' 7 50
     start_outer
     start 8 50 "$recorder" f
-    wait_for 50 outer_has '^[[8l'
-    outer_has '^[[8l'
-    report 'outer, told' $? "$(cat -v "$folder/outer")"
-    outer_has '^[[8h'
-    same 'outer, not yet at the end' $? 1
+    wait_for 50 test -e "$folder/record"
     type_keys C-q
-    wait_for 50 has_ended
-    wait_for 20 outer_has '^[[8h'
-    report 'outer, told at the end' $? "$(cat -v "$folder/outer")"
-    terminal kill-session -t person
+    finish 'outer' 7 50
+    for mode in 8l 8h; do
+        outer_has "^[[$mode"
+        same "outer, nothing is told: $mode" $? 1
+    done
     terminal kill-session -t outer
 }
 

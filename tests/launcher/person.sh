@@ -9,6 +9,7 @@
 #   wanted    the beginnings of the names of the checks to run, with blanks between; empty for all
 #   tables    BIDI_EDIT_DATA of sessions; empty for none
 #   setup cleanup redirection as   parts of a session's script, see `start`; mostly empty
+#   rows_told   the rows that are on the screen after a session; mostly empty
 #   is_flooded   not empty: the host ends before it has read all that was pasted
 # The functions set `tty`, the device of the session's terminal, and `rows` and `cols`, its size at the start; a check that
 # changes the height sets `rows` for `finish`. They count in `passed`, `failed` and `skipped`. The session of tmux is `person`;
@@ -168,8 +169,9 @@ finish() { # NAME STATUS TENTHS
         terminal kill-session -t person
         return
     fi
-    # one row alone, which `start` wrote; then the modes as a fresh terminal has them
-    same "$1, the screen before" "$(terminal capture-pane -p -t person | grep -c .) $(terminal capture-pane -p -t person | head -n 1)" '1 as before'
+    # what `start` wrote alone, and what is told; then the modes as a fresh terminal has them
+    same "$1, the screen before" "$(terminal capture-pane -p -J -t person | sed 's/ *$//' | grep .)" "as before${rows_told:+
+$rows_told}"
     same "$1, the terminal's modes" "$(modes_of person)" "0 0 0 $((rows - 1)) 1 1"
     type_keys -l 'a line'
     type_keys Enter

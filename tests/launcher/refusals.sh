@@ -18,15 +18,12 @@ refused() { # NAME WANTED WORD..
     same "$name: nothing else" "$(wc -c <"$folder/output") $(grep -c . "$folder/errors")" "0 $lines_told"
 }
 
-# Checks as `refused` does, but by a user who is not root, so that permissions hold: by 65534 (nobody) where root checks.
+# Checks as `refused` does, but by a user who is not root, so that permissions hold: where root checks, by `another_user`.
 refused_to_user() { # NAME WANTED WORD..
     name=$1 refusal=$2
     shift 2
-    if [ "$(id -u)" = 0 ]; then
-        alone_in_session setpriv --reuid 65534 --regid 65534 --clear-groups "$top/bidi-edit" "$@"
-    else
-        alone_in_session "$top/bidi-edit" "$@"
-    fi
+    # shellcheck disable=SC2086 # words
+    alone_in_session $another_user "$top/bidi-edit" "$@"
     same "$name" "$? $(head -n 1 "$folder/errors")" "$refusal"
 }
 
@@ -148,6 +145,10 @@ check_refused_texts() {
 
 # In `closed` nothing can be named, in `locked` no file can be made, in `open` the files are protected.
 check_refused_access() {
+    if ! as_another_user "$top/bidi-edit" "$folder/files"; then
+        skip access "another user has no access to $top or $folder"
+        return
+    fi
     mkdir closed locked open
     echo text | tee closed/f locked/f locked/g open/f >open/g
     chmod 000 open/g

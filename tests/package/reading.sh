@@ -15,9 +15,12 @@ check_manual() { # NAME
     same "$1, its version in the sources" "$(sed -n '1s/.*"bidi_edit \([^"]*\)".*/\1/p' "$top/docs/bidi_edit.1")" "${version%"$day.$digest"}"
     same "$1, its version" "$(sed -n '1s/.*"bidi_edit \([^"]*\)".*/\1/p' "$manual")" "$version"
     same "$1, its day" "$(sed -n '1s/^.TH BIDI_EDIT 1 \([^ ]*\) .*/\1/p' "$manual")" "$(date -u -d "$day" +%Y-%m-%d)"
+    has_tool "$1, apropos" mandb && has_tool "$1, apropos" apropos || return 0
+    mkdir -p "$folder/manuals/man1"
+    cp "$manual" "$folder/manuals/man1/bidi-edit.1"
+    mandb -q -c "$folder/manuals"
     for word in Hebrew Arabic bidirectional; do
-        sed -n '/^.SH NAME/,/^.SH SYNOPSIS/p' "$manual" | grep -q "$word"
-        report "$1, apropos $word" $? 'the section NAME lacks it'
+        same "$1, apropos $word" "$(apropos -M "$folder/manuals" "$word" 2>&1 | sed 's/ .*//')" bidi-edit
     done
 }
 

@@ -51,6 +51,10 @@ check_owners() {
         skip 'who is not root cannot be another user'
         return
     fi
+    if ! as_another_user "$folder/driver"; then
+        skip "another user has no access to $folder"
+        return
+    fi
     prepare owned
     chmod 4751 "$kept"
     mode=4751

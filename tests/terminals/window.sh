@@ -9,11 +9,12 @@
 
 # Opens a free display with a bus of its own, and hides the terminal around the check.
 open_display() {
-    unset TMUX STY XTERM_VERSION VTE_VERSION KONSOLE_VERSION MLTERM TERMINOLOGY KITTY_WINDOW_ID ALACRITTY_WINDOW_ID TERM_PROGRAM
-    unset INSIDE_EMACS WINDOWID COLORTERM SSH_CONNECTION WAYLAND_DISPLAY XDG_CONFIG_HOME XDG_DATA_HOME
-    mkdir -m 700 "$room/runtime" "$room/home" "$room/files"
+    unset XTERM_VERSION VTE_VERSION KONSOLE_VERSION MLTERM TERMINOLOGY KITTY_WINDOW_ID ALACRITTY_WINDOW_ID TERM_PROGRAM
+    unset INSIDE_EMACS WINDOWID COLORTERM SSH_CONNECTION WAYLAND_DISPLAY
+    own_state "$room"
+    mkdir -m 700 "$room/runtime" "$room/files"
     mkfifo "$room/display" "$room/orders"
-    export HOME="$room/home" XDG_RUNTIME_DIR="$room/runtime" XDG_STATE_HOME="$room/state" LIBGL_ALWAYS_SOFTWARE=1
+    export XDG_RUNTIME_DIR="$room/runtime" LIBGL_ALWAYS_SOFTWARE=1
     Xvfb -displayfd 3 -screen 0 800x400x24 -nolisten tcp 3>"$room/display" >/dev/null 2>&1 &
     server=$!
     read -r number <"$room/display" || lacks 'Xvfb does not start'
