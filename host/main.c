@@ -220,8 +220,10 @@ static int tell_version(const struct programs *programs) {
 
 /* Does what the command line asks for. Returns the exit status. */
 static int obey(const struct call *call, const struct programs *programs) {
-    if (call->kind == CALL_HELP) put_text(STDOUT_FILENO, help_text);
-    if (call->kind == CALL_HELP) return 0;
+    if (call->kind == CALL_HELP) {
+        put_text(STDOUT_FILENO, help_text);
+        return 0;
+    }
     if (call->kind == CALL_VERSION) return tell_version(programs);
     if (call->kind == CALL_PRINT) return print_file(call, programs);
     tell_variables();

@@ -214,7 +214,7 @@ bool is_raw(void) {
     return tcgetattr(terminal_line, &settings) == 0 && !(settings.c_lflag & (tcflag_t)(ICANON | ISIG));
 }
 
-bool is_taken(void) {
+bool has_other_settings(void) {
     struct termios settings;
     return !is_raw() && tcgetattr(terminal_line, &settings) == 0 && settings.c_lflag != cooked.c_lflag;
 }

@@ -33,7 +33,7 @@ void restore_settings(void);
 
 /* Whether the host's settings still stand; whether another program, such as a shell that edits its lines, has set its own since. */
 bool is_raw(void);
-bool is_taken(void);
+bool has_other_settings(void);
 
 /* Finds what the terminal can do, by TERM and by the variables that terminals set, and prepares the sequences for it: with this title, if
  * the terminal can restore its old one, and with a request for reports of the mouse if `has_mouse`, unless the editor would take the

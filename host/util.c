@@ -108,6 +108,7 @@ int read_pieces(int file, off_t place, void (*read)(void *, const char *, size_t
     }
 }
 
+/* For read_pieces: appends to a file, whose first fault is kept. */
 struct copying {
     int to, error;
 };
@@ -115,12 +116,6 @@ struct copying {
 static void copy_piece(void *context, const char *bytes, size_t size) {
     struct copying *copying = context;
     if (!copying->error) copying->error = write_bytes(copying->to, bytes, size);
-}
-
-int copy_pieces(int from, off_t place, int to) {
-    struct copying copying = {.to = to};
-    int error = read_pieces(from, place, copy_piece, &copying);
-    return error ? error : copying.error;
 }
 
 int copy_file(int from, off_t place, int to) {
@@ -131,7 +126,9 @@ int copy_file(int from, off_t place, int to) {
         count = copy_file_range(from, &place, to, NULL, LARGEST_COPY, 0);
     } while (count > 0);
     /* a system that copies no further may still read */
-    return copy_pieces(from, place, to);
+    struct copying copying = {.to = to};
+    int error = read_pieces(from, place, copy_piece, &copying);
+    return error ? error : copying.error;
 }
 
 DIR *open_entries(int folder) {

@@ -36,10 +36,9 @@ const char *before_slash(const char *folder);
 /* A variable of the environment; NULL where it is not set or empty. */
 const char *variable(const char *name);
 
-/* Writes all bytes at the file's position; copies all of a file from `place` on to the position of another file. */
+/* Writes all bytes at the file's position; copies all of a file from `place` on to the position of another file, as fast as the disk can: it may
+ * share blocks. */
 int write_bytes(int file, const void *bytes, size_t size);
-int copy_pieces(int from, off_t place, int to);
-/* Copies in the same way, as fast as the disk can: it may share blocks. */
 int copy_file(int from, off_t place, int to);
 
 /* Calls `read` with the bytes of an open file, piece by piece, from a place on. */

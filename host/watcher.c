@@ -88,10 +88,10 @@ static _Noreturn void watch(int words, pid_t host, const char *line) {
     bool is_ours = is_changed && is_raw();
     /* at once, since a shell sets its own settings now; if it has, they stay */
     if (is_ours) restore_settings();
-    if (is_quiet) restore(line, !is_ours && is_taken());
+    if (is_quiet) restore(line, !is_ours && has_other_settings());
     if (is_paste) tcflow(terminal_line, TCOON);
     if (!ends_before(words, start + GRACE_MS) && watched->program > 0) kill(watched->program, SIGKILL);
-    if (is_changed && !is_quiet) restore(line, is_taken());
+    if (is_changed && !is_quiet) restore(line, has_other_settings());
     /* a save ends soon, since its pipe has ended with the program */
     while (watched->saver > 0 && now() < start + SAVE_MS && kill(watched->saver, 0) == 0) poll(NULL, 0, WATCH_MS);
     if (watched->saver > 0) kill(watched->saver, SIGKILL);

@@ -174,13 +174,14 @@ static void take_file(struct reading *reading, const char *word, int count) {
 
 /* Decides what the options and FILE ask for. */
 static void settle(struct reading *reading) {
-    bool is_listed = !reading->file && !reading->other && !reading->is_print && reading->is_recovery != reading->is_forgetting;
-    if (reading->is_print) reading->call->kind = CALL_PRINT;
-    else if (reading->is_recovery) reading->call->kind = is_listed ? CALL_LIST : CALL_RECOVER;
-    else if (reading->is_forgetting) reading->call->kind = CALL_FORGET;
-    if (!reading->is_print && reading->is_recovery && reading->is_forgetting) reading->cause = "--recover and --forget cannot be combined";
-    else if (!reading->file && !is_listed) reading->cause = "FILE is missing";
-    else if (reading->other && !reading->is_recovery) reading->cause = "--to needs --recover";
+    enum call_kind kind = reading->is_recovery ? CALL_RECOVER : reading->is_forgetting ? CALL_FORGET : CALL_EDIT;
+    if (reading->is_print) kind = CALL_PRINT;
+    else if (reading->is_recovery && reading->is_forgetting) reading->cause = "--recover and --forget cannot be combined";
+    else if (reading->other && reading->file && !reading->is_recovery) reading->cause = "--to needs --recover";
+    if (kind == CALL_RECOVER && !reading->file && !reading->other) kind = CALL_LIST;
+    bool needs_file = kind == CALL_EDIT || kind == CALL_RECOVER || kind == CALL_PRINT || reading->other;
+    if (needs_file && !reading->file && !reading->cause) reading->cause = "FILE is missing";
+    reading->call->kind = kind;
 }
 
 /* Reads the words: options and FILE, with --print in any order, else FILE last. -h, --help and --version end it at once. */

@@ -34,7 +34,7 @@ static void unquote(char *word) {
         else if (!is_quoted) *to++ = *++at;
         else if (!is_numbered) *to++ = *at;
         else {
-            *to++ = (char)((at[1] - '0') << 6 | (at[2] - '0') << 3 | (at[3] - '0'));
+            *to++ = (char)((unsigned)(at[1] - '0') << 6 | (unsigned)(at[2] - '0') << 3 | (unsigned)(at[3] - '0'));
             at += 3;
         }
     }
