@@ -1,6 +1,8 @@
 """Runs a command on a terminal of its own, as a shell does: in a job of its own, in the foreground of a session."""
 import ctypes, fcntl, os, pty, select, signal, struct, termios, time
 
+HANG = 60  # seconds of a wait for something that comes: only what hangs takes so long, even on a busy machine
+
 
 def become_reaper():
     """Orphans of the tests become children of this process, so that their end is seen."""
