@@ -5,7 +5,7 @@ import glob, os, re, shutil, signal, subprocess, sys, termios, threading, time
 HERE = os.path.dirname(os.path.abspath(__file__))
 sys.path.insert(0, HERE)
 from checks import Fault, Report, Skipped, lasting_folder, needs, try_case
-from terminals import Run, become_reaper
+from terminals import HANG, Run, become_reaper
 
 QUIT = b'\x11'
 SECONDS = 2.5  # in which the host looks after the session
@@ -26,9 +26,9 @@ def installed(host, folder):
     return f'{folder}/bin/bidi-edit'
 
 
-def wait_for(test, seconds=200):
+def wait_for(test):
     """Waits until a test gives something, and returns that."""
-    end = time.monotonic() + seconds
+    end = time.monotonic() + HANG
     while True:
         found = test()
         if found or time.monotonic() > end:
@@ -67,7 +67,7 @@ class Editor:
 
     def is_told_of_other(self):
         """Waits for the question about another window, and refuses."""
-        if not self.run.pump(200, b'open in another window'):
+        if not self.run.pump(HANG, b'open in another window'):
             raise Fault('not told of another window', self.run.output)
         self.run.rest(1)
         self.run.type(b'\x04')
@@ -78,9 +78,9 @@ class Editor:
         return self.ends()
 
     def ends(self):
-        if not self.run.pump(100):
+        if not self.run.pump(HANG):
             raise Fault('goes on', self.run.output[-300:])
-        self.run.left(10)
+        self.run.left(HANG)
         self.close()
         return self
 

@@ -153,6 +153,15 @@ class Run:
             self.rest(0.02)
         return True
 
+    def waits(self, is_so):
+        """Reads until this is so. Returns whether it came."""
+        end = time.perf_counter() + HANG
+        while not is_so():
+            if time.perf_counter() > end:
+                return False
+            self.rest(0.01)
+        return True
+
     def rest(self, seconds):
         """Reads for some seconds: no program writes these bytes."""
         self.pump(seconds, b'\0\0\0')
