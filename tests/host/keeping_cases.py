@@ -189,7 +189,7 @@ def two_at_once(check, place):
     for _ in range(5):
         both = [place.start('a.txt', is_plain=True) for _ in range(2)]
         for started in both:
-            check.holds('a start', started.run.pump_any(20, (b'Edit it anyway', b'text <')), started.run.output)
+            check.holds('a start', started.run.pump_any(HANG, (b'Edit it anyway', b'text <')), started.run.output)
         told = [b'Edit it anyway' in started.run.output for started in both]
         check.holds('one is told', any(told), [started.run.output for started in both])
         time.sleep(0.05)  # as in Started.answers
