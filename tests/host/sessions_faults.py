@@ -4,6 +4,7 @@ failed."""
 import glob, os, re, shutil, signal, subprocess, sys, termios, threading, time
 HERE = os.path.dirname(os.path.abspath(__file__))
 sys.path.insert(0, HERE)
+import about
 from checks import Fault, Report, Skipped, lasting_folder, needs, try_case
 from terminals import HANG, Run, become_reaper
 
@@ -56,9 +57,10 @@ class Editor:
         return not termios.tcgetattr(self.run.slave)[3] & termios.ICANON and SHOWN.search(self.run.output)
 
     def types(self, keys):
-        """Types, and waits until the screen rests."""
+        """Types, and waits until something is painted and the screen rests."""
+        seen = len(self.run.output)
         self.run.type(keys)
-        self.run.rest(0.3)
+        self.run.waits(lambda: len(self.run.output) > seen)
         seen = None
         while seen != len(self.run.output):
             seen = len(self.run.output)
@@ -265,7 +267,8 @@ def saved_and_renamed(check, place):
     os.mkdir(f'{place.files}/one')
     place.put('one/a')
     editor = place.edit('one/a').types(b'abc\x13').types(b'd')
-    editor.run.rest(SECONDS)
+    inode = str(os.stat(f'{place.files}/one/a').st_ino)
+    check.holds('the new file is noted', wait_for(lambda: about.facts(os.path.dirname(place.parts('about')[0]))['file'].split()[1] == inode))
     os.rename(f'{place.files}/one', f'{place.files}/two')
     os.kill(editor.run.job, signal.SIGKILL)
     editor.ends()
