@@ -42,14 +42,17 @@ words 300 check-words.sh
 TEXT
 }
 
+# A user edits meanwhile (tests/host/user.py), and the parts have his home: what they do to his sessions is a failure of the part `user`.
+
 # How many parts run at once.
 lanes=2
 room=$(mktemp -d) || exit 1
-passed=0 failed=0 skipped=0 done=0 running=''
+passed=0 failed=0 skipped=0 done=0 running='' user=''
 
 # Ends what runs.
 stop() {
     for name in $running; do kill -s TERM "$(cat "$room/$name.process")" 2>/dev/null; done
+    [ -z "$user" ] || kill -s TERM "$user" 2>/dev/null
     wait
     rm -rf -- "$room"
 }
@@ -75,6 +78,30 @@ find_programs() {
     done
 }
 
+# Has the user edit, in a home that is from then on the one of all parts, so that they meet his sessions if they can. A line of the file 8
+# is what he waits for.
+begin_user() {
+    command -v python3 >/dev/null || return 0
+    user_begun=$(seconds_now)
+    mkfifo "$room/user.line"
+    exec 8<>"$room/user.line"
+    timeout -k 10 3600 python3 -B tests/host/user.py "$top/bidi-edit" "$room/user" <"$room/user.line" >"$room/user.said" 2>&1 8>&- &
+    user=$!
+    while ! [ -e "$room/user/ready" ] && kill -0 "$user" 2>/dev/null; do sleep 0.1; done
+    export HOME="$room/user/home" XDG_STATE_HOME="$room/user/home/.local/state"
+}
+
+# Tells what became of the user's sessions, as of a part.
+end_user() {
+    [ -n "$user" ] || return 0
+    echo >&8
+    status=0
+    wait "$user" || status=$?
+    user=''
+    echo "$status $(($(seconds_now) - user_begun)) 3600" >"$room/user.end"
+    finish user
+}
+
 seconds_now() {
     date +%s
 }
@@ -84,7 +111,7 @@ run_part() { # NAME SECONDS SCRIPT WORD..
     name=$1 most=$2 script=$3
     shift 3
     begun=$(seconds_now)
-    timeout -k 10 "$most" sh "$top/tests/$script" "$@" >"$room/$name.said" 2>&1 </dev/null &
+    timeout -k 10 "$most" sh "$top/tests/$script" "$@" >"$room/$name.said" 2>&1 </dev/null 8>&- &
     child=$!
     trap 'kill -s TERM "$child" 2>/dev/null; wait "$child"; exit 1' TERM
     status=0
@@ -191,12 +218,14 @@ hide_toolchain
 find_programs
 # compiled once, before two parts need it at the same time
 sh host/build.sh
+begin_user
 while read -r line; do
     # shellcheck disable=SC2086 # split into words
     start $line
     wait_below "$lanes"
 done <"$room/parts"
 wait_below 1
+end_user
 tell_mutants
 echo "in $(($(seconds_now) - started)) s:"
 told="$passed passed, $failed failed"

@@ -2,6 +2,7 @@
 import os, shutil, signal, subprocess, time
 from checks import Skipped, needs
 from keeping_scene import CHOICE, QUIT, SAVE, recovers
+from terminals import HANG
 
 
 def saved(check, place):
@@ -80,7 +81,7 @@ def folder_gone(check, place):
         remove_at_once(folder, place)
         # host and program write to the terminal in any order
         for told in b'(unsaved text is not kept now: save it)', b'notice 2':
-            check.holds(f'{told} is shown', started.run.pump(15, told), started.run.output)
+            check.holds(f'{told} is shown', started.run.pump(HANG, told), started.run.output)
         started.type(keys) if keys else os.kill(started.run.job, signal.SIGTERM)
         started.ends(status)
         check.holds('what is told', line.format(folder) in started.err(), started.err())
@@ -99,7 +100,7 @@ def parts_gone(check, place):
         folder = place.sessions()[0]
         os.unlink(f'{folder}/{name}')
         started.sees(b'notice 2').type(b'd').sees(b'<abcdtext')
-        check.holds(f'{name}: the title', started.run.pump(5, b'<abcdtext'), started.run.output)
+        check.holds(f'{name}: the title', started.run.pump(HANG, b'<abcdtext'), started.run.output)
         place.start('a.txt').answers(b'Edit it anyway (yes, no)? ', 'no').ends(2)
         os.kill(started.run.job, signal.SIGTERM)
         started.ends(-signal.SIGTERM)
@@ -198,14 +199,14 @@ def pipe_in_its_place(check, place):
     os.unlink(place.path('a.txt'))
     os.mkfifo(place.path('a.txt'))
     os.kill(started.run.job, signal.SIGTERM)
-    started.ends(-signal.SIGTERM, 4)
+    started.ends(-signal.SIGTERM)
     check.holds('what is told', 'unsaved text is kept' in started.err(), started.err())
 
 
 def hangs_up(started):
     """Closes the terminal of a start, which ends by that."""
     os.kill(started.run.job, signal.SIGHUP)
-    return started.ends(-signal.SIGHUP, 20)
+    return started.ends(-signal.SIGHUP)
 
 
 @needs('cc')
