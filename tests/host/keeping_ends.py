@@ -209,12 +209,29 @@ def hangs_up(started):
     return started.ends(-signal.SIGHUP)
 
 
+def slow_disk(place):
+    """The environment of a host each of whose syncs takes half a second."""
+    library = f'{place.top}/slow_sync.so'
+    subprocess.run(['cc', '-shared', '-fPIC', '-D_GNU_SOURCE', '-o', library, f'{os.path.dirname(__file__)}/slow_sync.c'], check=True)
+    return {'LD_PRELOAD': library, 'ASAN_OPTIONS': 'verify_asan_link_order=0'}
+
+
+@needs('cc')
+def recovered_at_once(check, place):
+    """A recovery right after a kill of host and program waits for the keeper, which puts the last keys on a slow disk."""
+    place.put('a.txt', b'text\n')
+    started = place.edit('a.txt', **slow_disk(place)).type(b'abc').sees(b'*')
+    for process in (started.run.job, started.run.child('bidi_edit')):
+        os.kill(process, signal.SIGKILL)
+    said = place.tells('--recover', '--to', place.path('b.txt'), 'a.txt')
+    check.same(f'the other file: {said}', place.text('b.txt'), b'abctext\n')
+    started.ends(-signal.SIGKILL)
+
+
 @needs('cc')
 def slow_syncs(check, place):
     """On a disk where each sync takes half a second, an end in a hurry keeps the session, though not all of it was synced."""
-    library = f'{place.top}/slow_sync.so'
-    subprocess.run(['cc', '-shared', '-fPIC', '-D_GNU_SOURCE', '-o', library, f'{os.path.dirname(__file__)}/slow_sync.c'], check=True)
-    slow = {'LD_PRELOAD': library, 'ASAN_OPTIONS': 'verify_asan_link_order=0'}
+    slow = slow_disk(place)
 
     def just_after_a_save(started):
         started.type(SAVE).sees(b'saved').type(b'd').sees(b'<abcdtext')
@@ -263,5 +280,5 @@ def replaced_on_full_disk(check, place):
         subprocess.run(['umount', disk])
 
 
-CASES = [saved, failed_save, killed, killed_host, slow_syncs, replaced_on_full_disk, no_keys, other_names, folder_gone, parts_gone, journal_lost, folder_renamed,
+CASES = [saved, failed_save, killed, killed_host, recovered_at_once, slow_syncs, replaced_on_full_disk, no_keys, other_names, folder_gone, parts_gone, journal_lost, folder_renamed,
          working_folder_gone, no_folder, long_folder, pipe_in_its_place]
