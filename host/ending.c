@@ -137,9 +137,9 @@ static bool tell_fault_of(const struct file *file, const struct said *said) {
 
 /* Opens FILE as it is now, if it is a plain file. */
 static int open_now(const struct file *file, struct stat *look) {
-    int now = file->is_lost ? -1 : openat(file->folder, file->name, O_RDONLY | O_NONBLOCK | O_NOFOLLOW | O_CLOEXEC);
-    if (now >= 0 && (fstat(now, look) != 0 || !S_ISREG(look->st_mode))) close_one(&now);
-    return now;
+    int text = file->is_lost ? -1 : openat(file->folder, file->name, O_RDONLY | O_NONBLOCK | O_NOFOLLOW | O_CLOEXEC);
+    if (text >= 0 && (fstat(text, look) != 0 || !S_ISREG(look->st_mode))) close_one(&text);
+    return text;
 }
 
 /* Whether FILE is there now. */
