@@ -282,17 +282,17 @@ send() { # NAME LAST CURSOR SEQUENCE
     # shellcheck disable=SC2059
     printf "$4" >"$folder/keys"
     type_bytes "$folder/keys"
-    wait_for ends_with "$2 $3"
-    same "keys, $sender, $1" "$(settled_screen person | last_row)" "$2 $3"
+    rest_until ends_with "$2 $3"
+    same "keys, $sender, $1" "$(last_row)" "$2 $3"
 }
 
-# Of a screen, prints the last row and the cursor.
+# Prints the last row of `shown`, and the cursor.
 last_row() {
-    sed '1s/.*|//' | paste -s -d ' '
+    echo "$shown" | sed '1s/.*|//' | paste -s -d ' '
 }
 
 ends_with() { # ROW-AND-CURSOR
-    [ "$(screen_of person | last_row)" = "$1" ]
+    [ "$(last_row)" = "$1" ]
 }
 
 # The second line goes from right to left: it begins in column 79, the last of the window.

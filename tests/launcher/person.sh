@@ -64,26 +64,40 @@ settled_screen() { # SESSION
     printf '%s\n' "$now"
 }
 
-# Whether the session's screen is this, or has this in its rows.
+# Whether `shown` is this screen, or has this in its rows.
 is_screen() { # SCREEN
-    [ "$(screen_of person)" = "$1" ]
+    [ "$shown" = "$1" ]
 }
 
 screen_has() { # TEXT
-    case $(screen_of person) in *"$1"*) return 0 ;; esac
+    case $shown in *"$1"*) return 0 ;; esac
     return 1
 }
 
-# Waits until the session's screen is as wanted, and reports whether it stays so.
-same_screen() { # NAME SCREEN
-    wait_for is_screen "$2"
-    same "$1" "$(settled_screen person)" "$2"
+# Sets `shown` to the session's screen once it rests; if the command does not succeed by then, also waits for that.
+rest_until() { # COMMAND..
+    shown=$(settled_screen person)
+    "$@" || {
+        wait_for look_again "$@"
+        shown=$(settled_screen person)
+    }
 }
 
-# Waits until the session's screen has a text, and reports whether it keeps it.
+look_again() { # COMMAND..
+    shown=$(screen_of person)
+    "$@"
+}
+
+# Waits until the session's screen is as wanted, and reports it.
+same_screen() { # NAME SCREEN
+    rest_until is_screen "$2"
+    same "$1" "$shown" "$2"
+}
+
+# Waits until the session's screen has a text, and reports it.
 has_on_screen() { # NAME TEXT
-    wait_for screen_has "$2"
-    has "$1" "$(settled_screen person)" "$2"
+    rest_until screen_has "$2"
+    has "$1" "$shown" "$2"
 }
 
 # Prints the bytes that the host and its program have written so far, with escapes as ^[.
