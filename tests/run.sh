@@ -19,26 +19,26 @@ cd "$top" || exit 1
 # Lists the parts, the longest first: a name, the seconds after which it counts as hanging, and the script with its words.
 parts() {
     cat <<'TEXT'
-terminal 480 check-launcher.sh words tables size access refused opening checks printing kill leftovers modes nonblock controlling title outer
-editing 480 check-launcher.sh edit breaks quit long end file line stop install caller paste input keys joining
-saves 480 check-saves.sh --quick
-host 480 check-host.sh
-recovery 480 check-recovery.sh 30
-rows 480 check-print.sh
-sessions 480 check-sessions.sh
-schedules 300 check-schedules.sh
-cases 300 check-cases.sh
-orders 300 check-orders.sh
-edits 300 check-edits.sh 200
-joined-rows 300 check-joined-rows.sh
-statuses 300 check-statuses.sh
-runs 300 check-runs.sh
-files 300 check-files.sh
-session-files 300 check-session-files.sh
-keeping 300 check-keeping.sh
-dist 300 check-dist.sh
-package 480 check-package.sh
-words 300 check-words.sh
+terminal 1500 check-launcher.sh words tables size access refused opening checks printing kill leftovers modes nonblock controlling title outer
+editing 1500 check-launcher.sh edit breaks quit long end file line stop install caller paste input keys joining
+saves 1500 check-saves.sh --quick
+host 1500 check-host.sh
+recovery 1500 check-recovery.sh 30
+rows 1500 check-print.sh
+sessions 1500 check-sessions.sh
+schedules 900 check-schedules.sh
+cases 900 check-cases.sh
+orders 900 check-orders.sh
+edits 900 check-edits.sh 200
+joined-rows 900 check-joined-rows.sh
+statuses 900 check-statuses.sh
+runs 900 check-runs.sh
+files 900 check-files.sh
+session-files 900 check-session-files.sh
+keeping 900 check-keeping.sh
+dist 900 check-dist.sh
+package 1500 check-package.sh
+words 900 check-words.sh
 TEXT
 }
 
