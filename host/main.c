@@ -209,12 +209,12 @@ static int edit_by(const struct call *call, const struct programs *programs) {
     return call->kind == CALL_EDIT ? edit_file(&edit) : edit_recovered(&edit);
 }
 
-/* Prints the versions of the editor, of the toolchain that built its programs, which the file kit names, and of Unicode's tables. */
+/* Prints the versions of the editor, of the toolchain that built its programs, and of Unicode's tables, and what else the file kit notes. */
 static int tell_version(const struct programs *programs) {
     struct tables tables;
     const char *cause = find_tables(&tables, programs->tables);
     if (cause) return refuse(STATUS_FAULT, cause);
-    put_text(STDOUT_FILENO, version_text(first_line(programs->kit), tables.classes));
+    put_text(STDOUT_FILENO, version_text(beginning(programs->kit), tables.classes));
     return 0;
 }
 

@@ -232,18 +232,18 @@ int read_words(int count, char *const *words, struct call *call, const char **ca
     return 0;
 }
 
-const char *first_line(const char *path) {
-    char line[256];
+const char *beginning(const char *path) {
+    char words[1023];
     FILE *stream = fopen(path, "re");
-    bool is_read = stream && fgets(line, sizeof line, stream);
+    size_t length = stream ? fread(words, 1, sizeof words, stream) : 0;
     if (stream) fclose(stream);
-    return is_read ? text_of("%.*s", (int)strcspn(line, "\n"), line) : NULL;
+    return length > 0 ? text_of("%.*s", (int)length, words) : NULL;
 }
 
 /* The version of Unicode that the first line of DerivedBidiClass.txt names. */
 static const char *unicode_version(const char *classes) {
     static const char before[] = "# DerivedBidiClass-";
-    const char *line = first_line(classes);
+    const char *line = beginning(classes);
     if (!line || strncmp(line, before, sizeof before - 1) != 0) return "unknown";
     const char *version = line + sizeof before - 1;
     size_t length = strspn(version, "0123456789.");
@@ -251,8 +251,14 @@ static const char *unicode_version(const char *classes) {
     return length > 0 ? text_of("%.*s", (int)length, version) : "unknown";
 }
 
-const char *version_text(const char *toolchain, const char *classes) {
-    return text_of("bidi-edit " EDITOR_VERSION "\ntoolchain %s\nUnicode %s\n", toolchain ? toolchain : "unknown", unicode_version(classes));
+const char *version_text(const char *notes, const char *classes) {
+    static const char word[] = "\nversion ";
+    if (!notes || !*notes) notes = "unknown";
+    const char *rest = notes + strcspn(notes, "\n"), *version = strncmp(rest, word, sizeof word - 1) == 0 ? rest + sizeof word - 1 : NULL;
+    size_t length = version ? strcspn(version, "\n") : 0;
+    const char *told = version ? text_of("%.*s", (int)length, version) : EDITOR_VERSION;
+    const char *others = version ? version + length : rest;
+    return text_of("bidi-edit %s\ntoolchain %.*s\nUnicode %s\n%s", told, (int)(rest - notes), notes, unicode_version(classes), *others ? others + 1 : "");
 }
 
 /* ---- the programs' words and Unicode's tables */

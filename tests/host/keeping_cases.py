@@ -4,12 +4,16 @@ from checks import Skipped, needs
 from keeping_scene import CHOICE, QUIT, REST, SAVE, recovers
 from terminals import HANG
 
+# the version that the sources name
+with open(f'{os.path.dirname(os.path.abspath(__file__))}/../../host/words.h') as words:
+    VERSION = re.search('#define EDITOR_VERSION "(.*)"', words.read()).group(1)
+
 
 def told_words(check, place):
     """Help, version, refusals of words."""
     found = status, out, err = place.tells('--help')
     check.holds('--help', status == 0 and out.startswith('usage: bidi-edit ') and not err, found)
-    check.same('--version', place.tells('--version'), (0, 'bidi-edit 0.4.0\ntoolchain some kit\nUnicode 15.0.0\n', ''))
+    check.same('--version', place.tells('--version'), (0, f'bidi-edit {VERSION}\ntoolchain some kit\nUnicode 15.0.0\n', ''))
     found = status, out, err = place.tells()
     check.holds('no word', status == 2 and err.startswith('bidi-edit: FILE is missing\nusage: ') and not out, found)
     for words in (['--help'], ['--version'], ['--forget']):

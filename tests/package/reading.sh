@@ -13,6 +13,7 @@ check_manual() { # NAME
     ! has_tool "$1, man" man || same "$1, man" "$(man --warnings -l "$manual" 2>&1 >/dev/null)" ''
     ! has_tool "$1, mandoc" mandoc || same "$1, mandoc" "$(mandoc -T lint "$manual" 2>&1)" ''
     same "$1, its version in the sources" "$(sed -n '1s/.*"bidi_edit \([^"]*\)".*/\1/p' "$top/docs/bidi_edit.1")" "${version%"$day.$digest"}"
+    same "$1, the version in host/words.h" "$(sed -n 's/^#define EDITOR_VERSION "\(.*\)"$/\1/p' "$top/host/words.h")" "${version%"$day.$digest"}"
     same "$1, its version" "$(sed -n '1s/.*"bidi_edit \([^"]*\)".*/\1/p' "$manual")" "$version"
     same "$1, its day" "$(sed -n '1s/^.TH BIDI_EDIT 1 \([^ ]*\) .*/\1/p' "$manual")" "$(date -u -d "$day" +%Y-%m-%d)"
     has_tool "$1, apropos" mandb && has_tool "$1, apropos" apropos || return 0

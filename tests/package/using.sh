@@ -60,14 +60,10 @@ use_tree() { # NAME TREE
     same "$1, with HOME: what is said" "$(cat "$room/errors")" ''
     same "$1, with HOME: what is kept" "$(find "$room/home/.local/state/bidi_edit" -type f)" ''
     use "$1, without HOME" "$as_user env -u HOME -u XDG_STATE_HOME BIDI_EDIT_DATA='$2/share/bidi_edit' '$2/bin/bidi-edit' '$room/note'"
-    same "$1, the version" "$($as_user env BIDI_EDIT_DATA="$2/share/bidi_edit" "$2/bin/bidi-edit" --version 2>&1 | head -n 1)" "bidi-edit $(told_version)"
+    same "$1, the version" "$($as_user env BIDI_EDIT_DATA="$2/share/bidi_edit" "$2/bin/bidi-edit" --version 2>&1 | sed '2,3d' | paste -s -d '|')" \
+        "bidi-edit $version|programs of dist/|sources of dist/ $(noted sources)"
     same "$1, printed" "$($as_user env BIDI_EDIT_DATA="$2/share/bidi_edit" "$2/bin/bidi-edit" --print "$room/note" | wc -l)" 1
     rm -rf "$room"
-}
-
-# The version that the host was compiled with.
-told_version() {
-    sed -n 's/^#define EDITOR_VERSION "\(.*\)"$/\1/p' "$top/host/words.h"
 }
 
 # Runs dpkg with these words on a root folder that has its lists and no C library.
