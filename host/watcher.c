@@ -54,11 +54,11 @@ static bool ends_before(int file, int64_t end) {
     return false;
 }
 
-/* Whether the program has painted all that it will paint: it has read all of its input, and painted before. */
+/* Whether the program has painted all that it will paint: it has read all of its input, painted before, and does not wait for a save. */
 static bool has_painted_all(void) {
     char path[64];
     int unread = 0;
-    if (!watched->has_read) return false;
+    if (!watched->has_read || watched->saver > 0) return false;
     snprintf(path, sizeof path, "/proc/%ld/fd/0", (long)watched->program);
     int input = open(path, O_RDONLY | O_NONBLOCK | O_CLOEXEC);
     if (input < 0) return watched->program == 0 || errno == ENOENT;
