@@ -4,7 +4,6 @@
 #include <errno.h>
 #include <fcntl.h>
 #include <poll.h>
-#include <signal.h>
 #include <stdio.h>
 #include <string.h>
 #include <sys/file.h>
@@ -12,11 +11,12 @@
 
 #include "file.h"
 #include "save.h"
+#include "say.h"
 #include "util.h"
 
 /* KEEPER_TRIES: how often to wait KEEPER_PAUSE_MS for the keeper of a host that was killed. LONGEST_WITHOUT_KEYS: the longest journal that
  * is read to see whether it has only sizes and notices; at worst a longer one keeps a session without keys. */
-enum { FILE_MODE = 0600, KEEPER_TRIES = 60, KEEPER_PAUSE_MS = 50, LONGEST_WITHOUT_KEYS = 4096 };
+enum { FILE_MODE = 0600, KEEPER_TRIES = 200, KEEPER_PAUSE_MS = 50, LONGEST_WITHOUT_KEYS = 4096 };
 
 /* ---- files in the session's folder */
 
@@ -82,10 +82,12 @@ static int try_lock(int file) {
     return 0;
 }
 
-/* Whether the host that began or continued the session on this machine has ended. */
+/* Whether the host that began or continued the session on this machine has ended, even if nobody has waited for its end yet. */
 static bool is_host_gone(const struct session *session) {
     const struct process *there = &session->about.process;
-    return session->about.has_process && !may_go_on_elsewhere(there, this_process()) && kill((pid_t)there->number, 0) != 0 && errno == ESRCH;
+    if (!session->about.has_process || may_go_on_elsewhere(there, this_process())) return false;
+    const char *line = read_short(AT_FDCWD, text_of("/proc/%u/stat", there->number), NULL), *name_end = line ? strrchr(line, ')') : NULL;
+    return !name_end || strncmp(name_end, ") Z", 3) == 0;
 }
 
 bool session_is_live(const struct session *session) {

@@ -223,8 +223,7 @@ def recovered_at_once(check, place):
     started = place.edit('a.txt', **slow_disk(place)).type(b'abc').sees(b'*')
     for process in (started.run.job, started.run.child('bidi_edit')):
         os.kill(process, signal.SIGKILL)
-    said = place.tells('--recover', '--to', place.path('b.txt'), 'a.txt')
-    check.same(f'the other file: {said}', place.text('b.txt'), b'abctext\n')
+    recovers(check, place, 'a.txt', b'abctext\n')
     started.ends(-signal.SIGKILL)
 
 
