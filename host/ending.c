@@ -137,9 +137,9 @@ static bool tell_fault_of(const struct file *file, const struct said *said) {
 
 /* Opens FILE as it is now, if it is a plain file. */
 static int open_now(const struct file *file, struct stat *look) {
-    int now = file->is_lost ? -1 : openat(file->folder, file->name, O_RDONLY | O_NONBLOCK | O_NOFOLLOW | O_CLOEXEC);
-    if (now >= 0 && (fstat(now, look) != 0 || !S_ISREG(look->st_mode))) close_one(&now);
-    return now;
+    int text = file->is_lost ? -1 : openat(file->folder, file->name, O_RDONLY | O_NONBLOCK | O_NOFOLLOW | O_CLOEXEC);
+    if (text >= 0 && (fstat(text, look) != 0 || !S_ISREG(look->st_mode))) close_one(&text);
+    return text;
 }
 
 /* Whether FILE is there now. */
@@ -264,7 +264,10 @@ static struct left left_of(struct edit *edit, enum left_how how) {
     left.has_keys = session_has_keys(session) || session_has_mark(session, MARK_UNSAVED);
     bool is_wanted = left.is_torn || (left.has_keys && how != LEFT_SAVED);
     if (is_wanted) note_moved(edit);
-    if (edit->facts.is_journal_lost && is_wanted) session->about.marks |= MARK_CUT;
+    if (edit->facts.is_journal_lost && is_wanted) {
+        session->about.marks |= MARK_CUT;
+        session->is_about_due = true;
+    }
     left.is_filled = is_wanted && session_settle(session, end_signal != 0);
     left.is_secret = session_has_mark(session, MARK_SECRET);
     left.is_same = left.is_filled && left.has_keys && leave_text(edit);

@@ -102,11 +102,22 @@ enum cause session_put(const struct session *session, const char *name, const vo
     return cause_of(put_file(session, name, bytes, size));
 }
 
+/* Writes the facts over the old ones, in the blocks that these have, for a disk without room. Their last line tells if this is cut off. */
+static int overwrite_about(const struct session *session, const char *words, size_t size) {
+    struct stat found;
+    int error = ENOSPC, file = part_open(session->folder, ABOUT_NAME, O_WRONLY);
+    if (file >= 0 && fstat(file, &found) == 0 && (uint64_t)found.st_blocks * 512 >= size) error = write_bytes(file, words, size);
+    if (!error && ftruncate(file, (off_t)size) != 0) error = errno;
+    close_one(&file);
+    return error;
+}
+
 /* Writes the session's facts: the old ones or the new ones are there at every moment. */
 static int put_about(struct session *session) {
     static char words[MOST_ABOUT];
     size_t size = about_write(&session->about, words, sizeof words);
     int error = size > 0 ? put_file(session, ABOUT_NAME, words, size) : ENAMETOOLONG;
+    if (error == ENOSPC || error == EDQUOT) error = overwrite_about(session, words, size);
     if (error) return error;
     session->is_about_due = session->is_hasty;
     session->about.is_old = false;

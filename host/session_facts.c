@@ -3,6 +3,8 @@
 
 #include <errno.h>
 #include <fcntl.h>
+#include <poll.h>
+#include <signal.h>
 #include <stdio.h>
 #include <string.h>
 #include <sys/file.h>
@@ -12,9 +14,9 @@
 #include "save.h"
 #include "util.h"
 
-/* LONGEST_WITHOUT_KEYS: the longest journal that is read to see whether it has only sizes and notices; at worst a longer one keeps a session
- * without keys. */
-enum { FILE_MODE = 0600, LONGEST_WITHOUT_KEYS = 4096 };
+/* KEEPER_TRIES: how often to wait KEEPER_PAUSE_MS for the keeper of a host that was killed. LONGEST_WITHOUT_KEYS: the longest journal that
+ * is read to see whether it has only sizes and notices; at worst a longer one keeps a session without keys. */
+enum { FILE_MODE = 0600, KEEPER_TRIES = 60, KEEPER_PAUSE_MS = 50, LONGEST_WITHOUT_KEYS = 4096 };
 
 /* ---- files in the session's folder */
 
@@ -80,9 +82,20 @@ static int try_lock(int file) {
     return 0;
 }
 
+/* Whether the host that began or continued the session on this machine has ended. */
+static bool is_host_gone(const struct session *session) {
+    const struct process *there = &session->about.process;
+    return session->about.has_process && !may_go_on_elsewhere(there, this_process()) && kill((pid_t)there->number, 0) != 0 && errno == ESRCH;
+}
+
 bool session_is_live(const struct session *session) {
     if (session->is_locked) return false;
     int error = try_lock(session->folder);
+    /* the keeper of a host that was killed has the lock until it has put the last keys on the disk */
+    for (int tries = KEEPER_TRIES; error == EWOULDBLOCK && tries > 0 && is_host_gone(session); tries--) {
+        poll(NULL, 0, KEEPER_PAUSE_MS);
+        error = try_lock(session->folder);
+    }
     if (error && error != EWOULDBLOCK) {
         int journal = part_open(session->folder, JOURNAL_NAME, O_RDWR);
         error = journal >= 0 ? try_lock(journal) : errno == ENOENT ? 0 : errno;

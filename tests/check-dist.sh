@@ -19,7 +19,7 @@ passed=0 failed=0 skipped=0
 # shellcheck disable=SC2034 # of the parts
 tree=$folder/tree names=$dist_programs player=$dist_player
 export LC_ALL=C HOME="$folder/home" TOLD="$folder/told"
-unset XDG_CACHE_HOME TMUX
+unset XDG_STATE_HOME XDG_CONFIG_HOME XDG_CACHE_HOME TMUX
 umask 022
 
 skip() { # NAME CAUSE

@@ -28,7 +28,7 @@ read -r line && echo "read <\$line>"
 sleep 600
 END
     tmux -u -L "$socket" -f /dev/null new-session -d -s start -x 100 -y 12 "sh '$folder/slow/session'"
-    wait_for 300 test -e "$folder/begun"
+    wait_for test -e "$folder/begun"
 }
 
 # The same where programs are built in crates/, and the host is compiled in its own folder.
@@ -36,10 +36,10 @@ check_waiting_built() { # NAME
     mkdir -p "$tree/host/lib" && cp -R "$tree/out/start/lib/bidi_edit" "$tree/host/lib/"
     build_all
     start_slowly
-    wait_for 300 shows 'bidi-edit: preparing the start, which takes some seconds'
+    wait_for shows 'bidi-edit: preparing the start, which takes some seconds'
     report "$1, built here: a line after a second" $? "$(tmux -L "$socket" capture-pane -p -t start)"
     : >"$folder/go"
-    wait_for 300 shows icanon
+    wait_for shows icanon
     same "$1, built here: the terminal is as before" "$(tmux -L "$socket" capture-pane -p -t start | grep -e host -e status -e icanon | paste -s -d ' ')" \
         'host note status 0 icanon|echo'
     tmux -L "$socket" kill-session -t start
@@ -53,13 +53,13 @@ check_waiting() { # NAME
         return
     }
     start_slowly
-    wait_for 300 shows 'bidi-edit: preparing the start, which takes some seconds'
+    wait_for shows 'bidi-edit: preparing the start, which takes some seconds'
     report "$1, a line after a second" $? "$(tmux -L "$socket" capture-pane -p -t start)"
     tmux -L "$socket" send-keys -t start F2 typed Enter
     sleep 0.5
     same "$1, nothing else is seen" "$(tmux -L "$socket" capture-pane -p -t start | grep .)" 'bidi-edit: preparing the start, which takes some seconds'
     : >"$folder/go"
-    wait_for 300 shows 'read <'
+    wait_for shows 'read <'
     same "$1, the editor runs, and the terminal is as before" "$(tmux -L "$socket" capture-pane -p -t start | grep -e host -e runs -e status -e icanon | paste -s -d ' ')" \
         'host note bidi_edit runs status 0 icanon|echo'
     tmux -L "$socket" capture-pane -p -t start | grep -q 'read <.*typed>'
@@ -68,7 +68,7 @@ check_waiting() { # NAME
     check_waiting_built "$1"
     start_slowly
     tmux -L "$socket" send-keys -t start C-c
-    wait_for 300 shows icanon
+    wait_for shows icanon
     same "$1, Ctrl-C" "$(tmux -L "$socket" capture-pane -p -t start | grep -e status -e icanon | paste -s -d ' ')" 'status 130 icanon|echo'
     nothing_beside "$1, Ctrl-C" "$tree/out" ''
     tmux -L "$socket" kill-session -t start

@@ -2,6 +2,7 @@
 import os, re, shutil, signal, stat, subprocess, sys, time
 from checks import Skipped, needs
 from keeping_scene import CHOICE, QUIT, REST, SAVE, recovers
+from terminals import HANG
 
 
 def told_words(check, place):
@@ -114,12 +115,12 @@ def deletion(check, place):
     started = place.start('a.txt', is_plain=True, is_slow=True)
     for answer in (b'd\n', b'delete\n', b'd\nyes\n'):
         started.type(answer)
-    started.run.pump(5, CHOICE)
+    started.run.pump(HANG, CHOICE)
     started.run.rest(0.5)
     output = started.run.output
     check.holds('what was typed ahead', output.count(CHOICE) == 1 and b'Delete it' not in output, output)
     started.type(b'\x04')
-    check.holds('the end', started.run.pump(5), started.run.output)
+    check.holds('the end', started.run.pump(HANG), started.run.output)
     started.run.close()
     check.same('the number of sessions after what was typed ahead', len(place.sessions()), 1)
     place.start('a.txt').answers(CHOICE, 'd').answers(sure, 'yes').sees(b'text <text|>').type(QUIT).ends(0)
@@ -188,13 +189,13 @@ def two_at_once(check, place):
     for _ in range(5):
         both = [place.start('a.txt', is_plain=True) for _ in range(2)]
         for started in both:
-            check.holds('a start', started.run.pump_any(20, (b'Edit it anyway', b'text <')), started.run.output)
+            check.holds('a start', started.run.pump_any(HANG, (b'Edit it anyway', b'text <')), started.run.output)
         told = [b'Edit it anyway' in started.run.output for started in both]
         check.holds('one is told', any(told), [started.run.output for started in both])
         time.sleep(0.05)  # as in Started.answers
         for started, is_told in zip(both, told):
             started.type(b'no\n' if is_told else QUIT)
-            check.holds('an end', started.run.pump(15), started.run.output)
+            check.holds('an end', started.run.pump(HANG), started.run.output)
             started.run.drain()
         # the last one has the pipes of the first
         for started in reversed(both):
@@ -249,7 +250,7 @@ def replay_that_fails(check, place):
     for way in ('replay-dies', 'replay-hangs'):
         started = place.start('a.txt', TYPIST=way).answers(CHOICE, 'later').sees(b'text <').type(b'x').sees(b'*')
         os.kill(started.run.job, signal.SIGTERM)
-        started.ends(-signal.SIGTERM, 5)
+        started.ends(-signal.SIGTERM)
         check.holds(f'{way}: what is told at the end', 'unsaved text is kept: ' in started.err(), started.err())
 
 

@@ -2,6 +2,7 @@
 import os, shutil, signal, subprocess, time
 from checks import Skipped, needs
 from keeping_scene import CHOICE, QUIT, SAVE, recovers
+from terminals import HANG
 
 
 def saved(check, place):
@@ -80,7 +81,7 @@ def folder_gone(check, place):
         remove_at_once(folder, place)
         # host and program write to the terminal in any order
         for told in b'(unsaved text is not kept now: save it)', b'notice 2':
-            check.holds(f'{told} is shown', started.run.pump(15, told), started.run.output)
+            check.holds(f'{told} is shown', started.run.pump(HANG, told), started.run.output)
         started.type(keys) if keys else os.kill(started.run.job, signal.SIGTERM)
         started.ends(status)
         check.holds('what is told', line.format(folder) in started.err(), started.err())
@@ -99,7 +100,7 @@ def parts_gone(check, place):
         folder = place.sessions()[0]
         os.unlink(f'{folder}/{name}')
         started.sees(b'notice 2').type(b'd').sees(b'<abcdtext')
-        check.holds(f'{name}: the title', started.run.pump(5, b'<abcdtext'), started.run.output)
+        check.holds(f'{name}: the title', started.run.pump(HANG, b'<abcdtext'), started.run.output)
         place.start('a.txt').answers(b'Edit it anyway (yes, no)? ', 'no').ends(2)
         os.kill(started.run.job, signal.SIGTERM)
         started.ends(-signal.SIGTERM)
@@ -198,22 +199,39 @@ def pipe_in_its_place(check, place):
     os.unlink(place.path('a.txt'))
     os.mkfifo(place.path('a.txt'))
     os.kill(started.run.job, signal.SIGTERM)
-    started.ends(-signal.SIGTERM, 4)
+    started.ends(-signal.SIGTERM)
     check.holds('what is told', 'unsaved text is kept' in started.err(), started.err())
 
 
 def hangs_up(started):
     """Closes the terminal of a start, which ends by that."""
     os.kill(started.run.job, signal.SIGHUP)
-    return started.ends(-signal.SIGHUP, 20)
+    return started.ends(-signal.SIGHUP)
+
+
+def slow_disk(place):
+    """The environment of a host each of whose syncs takes half a second."""
+    library = f'{place.top}/slow_sync.so'
+    subprocess.run(['cc', '-shared', '-fPIC', '-D_GNU_SOURCE', '-o', library, f'{os.path.dirname(__file__)}/slow_sync.c'], check=True)
+    return {'LD_PRELOAD': library, 'ASAN_OPTIONS': 'verify_asan_link_order=0'}
+
+
+@needs('cc')
+def recovered_at_once(check, place):
+    """A recovery right after a kill of host and program waits for the keeper, which puts the last keys on a slow disk."""
+    place.put('a.txt', b'text\n')
+    started = place.edit('a.txt', **slow_disk(place)).type(b'abc').sees(b'*')
+    for process in (started.run.job, started.run.child('bidi_edit')):
+        os.kill(process, signal.SIGKILL)
+    said = place.tells('--recover', '--to', place.path('b.txt'), 'a.txt')
+    check.same(f'the other file: {said}', place.text('b.txt'), b'abctext\n')
+    started.ends(-signal.SIGKILL)
 
 
 @needs('cc')
 def slow_syncs(check, place):
     """On a disk where each sync takes half a second, an end in a hurry keeps the session, though not all of it was synced."""
-    library = f'{place.top}/slow_sync.so'
-    subprocess.run(['cc', '-shared', '-fPIC', '-D_GNU_SOURCE', '-o', library, f'{os.path.dirname(__file__)}/slow_sync.c'], check=True)
-    slow = {'LD_PRELOAD': library, 'ASAN_OPTIONS': 'verify_asan_link_order=0'}
+    slow = slow_disk(place)
 
     def just_after_a_save(started):
         started.type(SAVE).sees(b'saved').type(b'd').sees(b'<abcdtext')
@@ -262,5 +280,5 @@ def replaced_on_full_disk(check, place):
         subprocess.run(['umount', disk])
 
 
-CASES = [saved, failed_save, killed, killed_host, slow_syncs, replaced_on_full_disk, no_keys, other_names, folder_gone, parts_gone, journal_lost, folder_renamed,
+CASES = [saved, failed_save, killed, killed_host, recovered_at_once, slow_syncs, replaced_on_full_disk, no_keys, other_names, folder_gone, parts_gone, journal_lost, folder_renamed,
          working_folder_gone, no_folder, long_folder, pipe_in_its_place]

@@ -2,6 +2,7 @@
 import glob, os, re, signal, subprocess, time
 from checks import Skipped, needs
 from keeping_scene import CHOICE, QUIT, SAVE, recovers
+from terminals import HANG
 
 NOBODY = ['setpriv', '--reuid', '65534', '--regid', '65534', '--clear-groups']
 
@@ -62,7 +63,7 @@ def closed_files(check, place):
     check.same('the program\'s text', words[words.index('--text') + 1], '/dev/null')
     started.type(b'abc').sees(b'text <abc> *')
     os.kill(started.run.job, signal.SIGHUP)
-    check.holds('the end', started.run.pump(8), started.run.output)
+    check.holds('the end', started.run.pump(HANG), started.run.output)
     started.run.drain()
     started.run.close()
     recovers(check, place, 'a.txt', b'abc')
@@ -120,7 +121,7 @@ def cut_by_another(check, place):
         started = place.edit('a.txt', **slow).type(b'abc').sees(b'*')
         time.sleep(4)  # the session is complete
         started.type(SAVE)
-        end = time.monotonic() + 20
+        end = time.monotonic() + HANG
         while place.text('a.txt') != b'abctext\n' and time.monotonic() < end:
             time.sleep(0.01)
         saver = started.run.child('bidi-saver')
@@ -151,7 +152,7 @@ def emptied_by_save(check, place):
         place.put('a.txt', b'text\n')
         os.link(place.path('a.txt'), place.path('b.txt'))
         started = place.edit('a.txt', **slow).type(b'abc').sees(b'*').type(SAVE)
-        end = time.monotonic() + 20
+        end = time.monotonic() + HANG
         while place.text('a.txt') != b'' and time.monotonic() < end:
             time.sleep(0.01)
         for process in (started.run.job, started.run.child('bidi-saver'), started.run.child('bidi_edit')):
@@ -186,7 +187,7 @@ def make_room(check, started, filler):
     filler.truncate(0)
     filler.seek(0)
     # the cause stays the disk's
-    check.holds('the notices', started.run.pump(15, b'notice 6') and b'notice 5' not in started.run.output, started.run.output)
+    check.holds('the notices', started.run.pump(HANG, b'notice 6') and b'notice 5' not in started.run.output, started.run.output)
 
 
 @needs('root', 'mount')

@@ -2,7 +2,7 @@
 import glob, os, signal, subprocess, time
 import about
 from checks import Fault
-from terminals import Run
+from terminals import HANG, Run
 
 QUIT, SAVE = b'\x11', b'\x13'
 CHOICE = b'[r]ecover, [d]elete for good, [l]ater? '
@@ -26,9 +26,9 @@ class Started:
     def err(self):
         return open(self.err_path, encoding='utf-8').read()
 
-    def sees(self, text, seconds=15):
+    def sees(self, text):
         """Waits for a text in the terminal, and forgets all before it."""
-        if not self.run.pump(seconds, text):
+        if not self.run.pump(HANG, text):
             raise Fault('not seen', text, self.run.output[-500:], self.out(), self.err())
         self.run.output = self.run.output.partition(text)[2]
         return self
@@ -45,15 +45,15 @@ class Started:
         self.run.type(keys)
         return self
 
-    def ends(self, status, seconds=15):
+    def ends(self, status):
         """Waits for the end, and compares the status: an exit status, or less than 0 a signal's number."""
-        if not self.run.pump(seconds):
+        if not self.run.pump(HANG):
             raise Fault('goes on', self.run.output[-300:])
         self.run.drain()
         found = -os.WTERMSIG(self.run.status) if os.WIFSIGNALED(self.run.status) else os.WEXITSTATUS(self.run.status)
         if found != status:
             raise Fault(f'status {found}, and not {status}', self.out(), self.err(), self.run.output[-300:])
-        if left := self.run.left(3):
+        if left := self.run.left(HANG):
             raise Fault('processes are left', left)
         self.run.close()
         return self
@@ -94,7 +94,7 @@ class Place:
     def tells(self, *words, redirection='', **variables):
         """A start without a terminal: its status, standard output and error."""
         done = subprocess.run(['setsid', '-w', 'sh', '-c', f'exec "$@" {redirection}', 'sh', *self.before, self.host, *words], cwd=self.files, stdin=subprocess.DEVNULL, capture_output=True,
-                              env={**os.environ, 'TERM': 'xterm', **self.variables(variables)}, timeout=20)
+                              env={**os.environ, 'TERM': 'xterm', **self.variables(variables)}, timeout=HANG)
         return done.returncode, done.stdout.decode(), done.stderr.decode()
 
     def path(self, name):

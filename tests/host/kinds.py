@@ -1,7 +1,7 @@
 """Kinds of terminals: titles, reordering, keys, hints, and the terminal around tmux or GNU screen."""
 import os
 from cases import QUIT
-from terminals import Run
+from terminals import HANG, Run
 
 # The beginnings of what sets a title, and turns reordering on or off in two terminals.
 TITLE = b'\x1b]2;'
@@ -13,11 +13,11 @@ def see(tree, home=None, **variables):
     """What a session writes in a terminal with these variables; where it does not end well, with words before it that say so."""
     variables.setdefault('XTERM_VERSION', '')
     run = Run([tree.host, tree.new_file('kinds')], **{**tree.variables(home=home), **variables})
-    run.pump(5, b'hello')
+    run.pump(HANG, b'hello')
     run.type(QUIT)
-    run.pump(5)
+    run.pump(HANG)
     run.drain()
-    ok = run.status == 0 and run.is_restored() and not run.left(3)
+    ok = run.status == 0 and run.is_restored() and not run.left(HANG)
     run.close()
     return run.output if ok else b'(it did not end well)' + run.output
 
@@ -77,15 +77,15 @@ def hints(check, tree):
         hint = b'\x1b7\x1b[24;1H\x1b[0m\x1b[K' + name + b' reverses Hebrew and Arabic words: see \'man bidi-edit\', TERMINALS\x1b8'
         variables.setdefault('XTERM_VERSION', '')
         run = Run([tree.host, tree.new_file('hints')], **{**tree.variables('notes', home), **variables})
-        check.holds(f'{name}: told', run.pump(5, hint), run.output)
+        check.holds(f'{name}: told', run.pump(HANG, hint), run.output)
         run.rest(0.5)
         at = len(run.output)
         run.type(b'a')
-        run.pump(5, b'hello <a>')
+        run.pump(HANG, b'hello <a>')
         run.rest(0.3)
         check.holds(f'{name}: until a key', run.output[at:].count(b'hello <a>') >= 2, run.output[at:])
         run.type(QUIT)
-        run.pump(5)
+        run.pump(HANG)
         run.close()
         output = see(tree, home, **variables)
         check.holds(f'{name}: once', b'reverses' not in output, output)

@@ -10,7 +10,7 @@ import tempfile
 import time
 
 from checks import Skipped, needs
-from save_scene import OTHER, driver, is_old, mode_of, open_file, own_name, read, set_list, slow, wait_until_late, words_of_old, write
+from save_scene import LIMIT, OTHER, driver, is_old, mode_of, open_file, own_name, read, set_list, slow, wait_until_late, words_of_old, write
 
 here = os.path.dirname(os.path.abspath(__file__))
 
@@ -145,7 +145,7 @@ def pipe_at_opening(check, place):
     os.remove(place.note)
     os.mkfifo(place.note)
     try:
-        said, _ = process.communicate(timeout=10)
+        said, _ = process.communicate(timeout=LIMIT)
     except subprocess.TimeoutExpired:
         said = "it hangs"
         # lets it go on
@@ -172,10 +172,10 @@ def pipe_at_save(check, place):
 
 
 def end_by(process, number):
-    """Whether a process ends by a signal soon."""
+    """Whether a process ends by a signal."""
     process.send_signal(number)
     try:
-        process.wait(3)
+        process.wait(LIMIT)
         return True
     except subprocess.TimeoutExpired:
         process.kill()
@@ -215,9 +215,13 @@ def stalled_at_save(check, place):
     process.stdin.flush()
     time.sleep(0.5)
     check.same("whether a signal ends the host", end_by(process, signal.SIGTERM), True)
-    is_over = time.monotonic()
-    process.communicate()
-    check.same("whether the host's pipes are free", time.monotonic() - is_over < 2, True)
+    # the save's child waits as long as the disk does
+    try:
+        process.communicate(timeout=LIMIT)
+        is_free = True
+    except subprocess.TimeoutExpired:
+        is_free = False
+    check.same("whether the host's pipes are free", is_free, True)
     disk.communicate()
 
 

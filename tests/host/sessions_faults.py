@@ -4,8 +4,9 @@ failed."""
 import glob, os, re, shutil, signal, subprocess, sys, termios, threading, time
 HERE = os.path.dirname(os.path.abspath(__file__))
 sys.path.insert(0, HERE)
+import about
 from checks import Fault, Report, Skipped, lasting_folder, needs, try_case
-from terminals import Run, become_reaper
+from terminals import HANG, Run, become_reaper
 
 QUIT = b'\x11'
 SECONDS = 2.5  # in which the host looks after the session
@@ -26,9 +27,9 @@ def installed(host, folder):
     return f'{folder}/bin/bidi-edit'
 
 
-def wait_for(test, seconds=200):
+def wait_for(test):
     """Waits until a test gives something, and returns that."""
-    end = time.monotonic() + seconds
+    end = time.monotonic() + HANG
     while True:
         found = test()
         if found or time.monotonic() > end:
@@ -56,9 +57,10 @@ class Editor:
         return not termios.tcgetattr(self.run.slave)[3] & termios.ICANON and SHOWN.search(self.run.output)
 
     def types(self, keys):
-        """Types, and waits until the screen rests."""
+        """Types, and waits until something is painted and the screen rests."""
+        seen = len(self.run.output)
         self.run.type(keys)
-        self.run.rest(0.3)
+        self.run.waits(lambda: len(self.run.output) > seen)
         seen = None
         while seen != len(self.run.output):
             seen = len(self.run.output)
@@ -67,7 +69,7 @@ class Editor:
 
     def is_told_of_other(self):
         """Waits for the question about another window, and refuses."""
-        if not self.run.pump(200, b'open in another window'):
+        if not self.run.pump(HANG, b'open in another window'):
             raise Fault('not told of another window', self.run.output)
         self.run.rest(1)
         self.run.type(b'\x04')
@@ -78,9 +80,9 @@ class Editor:
         return self.ends()
 
     def ends(self):
-        if not self.run.pump(100):
+        if not self.run.pump(HANG):
             raise Fault('goes on', self.run.output[-300:])
-        self.run.left(10)
+        self.run.left(HANG)
         self.close()
         return self
 
@@ -265,7 +267,8 @@ def saved_and_renamed(check, place):
     os.mkdir(f'{place.files}/one')
     place.put('one/a')
     editor = place.edit('one/a').types(b'abc\x13').types(b'd')
-    editor.run.rest(SECONDS)
+    inode = str(os.stat(f'{place.files}/one/a').st_ino)
+    check.holds('the new file is noted', wait_for(lambda: about.facts(os.path.dirname(place.parts('about')[0]))['file'].split()[1] == inode))
     os.rename(f'{place.files}/one', f'{place.files}/two')
     os.kill(editor.run.job, signal.SIGKILL)
     editor.ends()

@@ -215,12 +215,9 @@ static void wait_for_room(void) {
     fill_small();
     session.about.marks = MARK_CUT;
     session.is_about_due = true;
-    check(mind(&session) == KEEPS_NOT_YET, "room: its facts have none");
-    check(session_settle(&session, true), "room: it can be recovered all the same");
-    check(strstr(part_text(&session, ABOUT_NAME), "\nsum "), "room: the old facts stay");
+    check(mind(&session) == KEEPS && strstr(part_text(&session, ABOUT_NAME), "marks cut\n"), "room: its facts need none");
+    check(session_settle(&session, true) && !session_damage(&session), "room: it can be recovered");
     unlink(path_in("small/other"));
-    session.is_hasty = false;
-    check(mind(&session) == KEEPS && strstr(part_text(&session, ABOUT_NAME), "marks cut"), "room: the facts are kept again");
     check(session_remove(&session) == CAUSE_NONE, "room: removed");
     session_close(&session);
     sessions_close(&sessions);

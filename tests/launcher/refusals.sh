@@ -105,7 +105,7 @@ refused_at_opening() { # NAME WANTED WORD..
     name=$1 refusal=$2
     shift 2
     start 8 50 "$top/bidi-edit" "$@"
-    finish "$name" "${refusal%% *}" 50
+    finish "$name" "${refusal%% *}"
     same "$name: the words" "$(cat "$folder/errors")" "${refusal#* }"
     case $(written) in
     *'^[[?1049h'*) report "$name: the screen stays" 1 "$(written)" ;;
@@ -129,15 +129,15 @@ check_refused_texts() {
     refused_at_opening 'opening, UTF-16' '1 bidi-edit: bytes is UTF-16, not UTF-8: iconv -f UTF-16 -t UTF-8 converts it' bytes
     printf '\177ELF\002\001\001\000\000\377\n' >bytes
     start 8 50 "$top/bidi-edit" bytes
-    finish 'opening, a program' 1 50
+    finish 'opening, a program' 1
     same 'opening, a program: it is no text in another encoding' "$(cat "$folder/errors")" 'bidi-edit: bytes is a binary file, not text: od -c shows its bytes'
     # lines of 17 bytes, cut after a whole letter; with six bytes more it is one byte too long
     awk 'BEGIN { for (n = 0; n < 16777216; n += 17) print "\327\251\327\234\327\225\327\235 \327\234\327\232 ab" }' | head -c 16777211 >bytes
     start 8 50 "$top/bidi-edit" bytes
-    wait_for 100 shows '- 1:1'
-    has 'opening, 16 MB of Hebrew' "$(settled_screen person)" '- 1:1'
+    wait_for shows '- 1:1'
+    has_on_screen 'opening, 16 MB of Hebrew' '- 1:1'
     type_keys C-q
-    finish 'opening, 16 MB of Hebrew' 0 50
+    finish 'opening, 16 MB of Hebrew' 0
     printf '123456' >>bytes
     refused_at_opening 'opening, too long' '1 bidi-edit: bytes has 16777217 bytes, more than the limit of 16777216: split -C 16M cuts it at line ends' bytes
     rm bytes

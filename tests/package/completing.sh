@@ -80,17 +80,17 @@ check_zsh() { # NAME
     has_tool "$1" zsh && has_tool "$1" tmux || return 0
     tmux -u -L "$socket" -f /dev/null new-session -d -s person -x 100 -y 30 zsh -f -i
     type_keys "fpath=('${zsh_file%/*}' \$fpath); autoload -Uz compinit; compinit -D -u; PS1='at '; clear; print READY" Enter
-    wait_for 300 has_line READY
+    wait_for has_line READY
     type_keys 'bidi-edit --no-' Tab
-    wait_for 300 has_line 'Keeps what is copied in the editor' && has_line --no-mouse
+    wait_for has_line 'Keeps what is copied in the editor' && has_line --no-mouse
     report "$1, options" $? "$(tmux -L "$socket" capture-pane -p -t person)"
     type_keys C-u
     type_keys 'bidi-edit --print file --mar' Tab
-    wait_for 300 has_line '--print file --marks'
+    wait_for has_line '--print file --marks'
     report "$1, of printing" $? "$(tmux -L "$socket" capture-pane -p -t person)"
     type_keys C-u
     type_keys 'bidi-edit --direction rt' Tab
-    wait_for 300 has_line '--direction rtl'
+    wait_for has_line '--direction rtl'
     report "$1, a value" $? "$(tmux -L "$socket" capture-pane -p -t person)"
     tmux -L "$socket" kill-session -t person
 }

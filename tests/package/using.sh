@@ -35,16 +35,16 @@ use() { # NAME COMMAND
     chmod 666 "$room/note"
     rm -f "$room/status" "$room/errors"
     tmux -u -L "$socket" -f /dev/null new-session -d -s person -x 60 -y 8 "$2 2>'$room/errors'; echo \$? >'$room/status'; exec sleep 600"
-    wait_for 100 has_line '1:1' || :
+    wait_for has_line '1:1' || :
     # the forms of the word's letters from left to right: an isolated beh, a final alef, an initial beh
     has_line "$(printf '\357\272\217\357\272\216\357\272\221')" && found=0 || found=1
     report "$1: joined letters" "$found" "$(tmux -L "$socket" capture-pane -p -t person)"
     type_keys א
-    wait_for 100 has_line '* 1:2' || :
+    wait_for has_line '* 1:2' || :
     type_keys C-s
-    wait_for 100 has_line '- 1:2' || :
+    wait_for has_line '- 1:2' || :
     type_keys C-q
-    wait_for 100 is_over || :
+    wait_for is_over || :
     same "$1: the status" "$(cat "$room/status" 2>/dev/null)" 0
     told=$(cmp "$room/note" "$folder/wanted" 2>&1)
     report "$1: the saved text" $? "$told"

@@ -16,9 +16,9 @@ open_session() { # COMMAND..
     wait_for_more 0
 }
 
-# Waits for more output than SIZE bytes, ten seconds at most.
+# Waits for more output than SIZE bytes, a minute at most.
 wait_for_more() { # SIZE
-    for _ in $(seq 200); do
+    for _ in $(seq 1200); do
         [ "$(stat -c %s "$folder/out")" -le "$1" ] || return 0
         sleep 0.05
     done

@@ -10,11 +10,11 @@ check_list() {
     has 'keeping, --recover alone: file and keys' "$(cat "$folder/output")" "keys: 1  KB: "
     has 'keeping, --recover alone: the file' "$(grep -c "$folder/files/note\$" "$folder/output") $(date +%Y)" "1 $(cut -c 1-4 "$folder/output" | head -n 1)"
     open_editor first '' --recover note
-    wait_for 60 shows_in first '* 1:2'
+    wait_for shows_in first '* 1:2'
     as_user "$host" --recover >"$folder/output" 2>&1 </dev/null
     has 'keeping, --recover alone: one that goes on' "$(grep "$folder/files/note" "$folder/output")" 'note (open now)'
     terminal send-keys -t first C-q C-q
-    wait_for 60 shows_in first status
+    wait_for shows_in first status
     as_user "$host" --recover >"$folder/output" 2>&1 </dev/null
     has 'keeping, --recover alone: one that was dropped' "$(grep "$folder/files/note" "$folder/output")" 'note (dropped)'
     close_editors first
@@ -25,9 +25,9 @@ check_list() {
 check_no_session() {
     rm -rf "$folder/state"
     open_editor first '' -n note
-    wait_for 60 shows_in first '- 1:1'
+    wait_for shows_in first '- 1:1'
     terminal send-keys -t first secret
-    wait_for 60 shows_in first '* 1:7'
+    wait_for shows_in first '* 1:7'
     same 'keeping, -n: no file is made' "$(ls -A "$folder/state" 2>/dev/null)$(ls -A)" ''
     terminal send-keys -t first C-q C-q
     expect_in first 'keeping, -n: it is said' 'unsaved text is not kept, since -n was given'
@@ -49,9 +49,9 @@ check_memory() {
     export XDG_STATE_HOME="$lasting"
     printf 'ab\n' | as_user tee "$folder/memory/note" >/dev/null
     open_editor first '' "$folder/memory/note"
-    wait_for 60 shows_in first '- 1:1'
+    wait_for shows_in first '- 1:1'
     terminal send-keys -t first x
-    wait_for 60 shows_in first '* 1:2'
+    wait_for shows_in first '* 1:2'
     same 'keeping, of a FILE in memory: no session' "$(find "$lasting" -type f)$(ls -A "$folder/memory")" note
     terminal send-keys -t first C-q C-q
     expect_in first 'keeping, of a FILE in memory: it is told' 'is in memory, and no disk may have its text'
@@ -70,16 +70,16 @@ check_syncs() {
     fi
     rm -rf "$folder/state"
     open_editor first "strace -f -qq -y -A -o '$folder/synced' -e trace=fsync,fdatasync" note
-    wait_for 60 shows_in first '- 1:1'
+    wait_for shows_in first '- 1:1'
     # the session's facts, its folder, and the folder of sessions
-    wait_for 30 grep -q '/about.new>' "$folder/synced"
-    wait_for 30 grep -q '/bidi_edit>' "$folder/synced"
+    wait_for grep -q '/about.new>' "$folder/synced"
+    wait_for grep -q '/bidi_edit>' "$folder/synced"
     report 'keeping, on the disk before the first key' $? "$(cat "$folder/synced")"
     terminal send-keys -t first x
-    wait_for 30 shows_in first '* 1:2'
+    wait_for shows_in first '* 1:2'
     : >"$folder/synced"
     terminal send-keys -t first y
-    wait_for 20 grep -q '/journal>' "$folder/synced"
+    wait_for grep -q '/journal>' "$folder/synced"
     report 'keeping, on the disk when typing pauses' $? 'the journal is not put there'
     # the facts follow the journal
     sleep 3

@@ -11,18 +11,18 @@ has_settings_before() {
 check_killed_host() {
     open_recorder
     kill -s KILL "$process"
-    wait_for 30 has_ended
-    wait_for 30 has_no_process
+    wait_for has_ended
+    wait_for has_no_process
     same 'orphans, processes of a killed host' "$(processes_of_check)" ''
     # the shell may go on before the watcher
-    wait_for 30 has_settings_before
+    wait_for has_settings_before
     report 'orphans, the settings of its terminal' $? "$(stty -g -F "$tty"), and not $(cat "$folder/before")"
     same 'orphans, the modes of its terminal' "$(modes_of person)" '0 0 0 23 1 1'
-    wait_for 20 is_over
+    wait_for is_over
     report 'orphans, the screen before' $? 'the alternate screen stays'
     for letter in a l i n e; do type_keys "$letter"; done
     type_keys C-j
-    wait_for 20 test -s "$folder/line"
+    wait_for test -s "$folder/line"
     same 'orphans, the next line is the shell'"'"'s' "$(cat "$folder/line" 2>/dev/null)" aline
     same 'orphans, files of a killed host' "$(ls -A "$folder/private")" ''
     kill_what_stays
@@ -39,7 +39,7 @@ check_full_terminal() { # SIGNAL
     # fills the room left after the last write that did not fit
     timeout 1 dd if=/dev/zero bs=1 2>/dev/null >"$tty"
     kill -s "$1" "$process"
-    wait_for 90 has_ended
+    wait_for has_ended
     report "orphans, a terminal that takes nothing, $1" $? 'it does not end'
     kill -s CONT "$server"
     kill_what_stays
@@ -51,7 +51,7 @@ kill_whole_editor() {
     open_recorder
     # shellcheck disable=SC2046 # split into words
     kill -s KILL $(processes_of_check)
-    wait_for 30 has_ended
+    wait_for has_ended
     terminal kill-session -t person
 }
 
@@ -74,7 +74,7 @@ check_left_sessions() {
     as_user touch "$locked/lock" "$others/lock"
     flock "$locked/lock" sleep 60 &
     holder=$!
-    wait_for 50 is_locked "$locked/lock"
+    wait_for is_locked "$locked/lock"
     wanted_left=20200101000000.locked
     # what stands in root's own folder root may take away
     if [ -n "$stranger" ] && [ "$who" = plain ]; then
@@ -83,9 +83,9 @@ check_left_sessions() {
     fi
     touch -d '3 hours ago' "$locked" "$others" "$left"
     open_editor first '' note
-    wait_for 60 shows_in first '- 1:1'
+    wait_for shows_in first '- 1:1'
     terminal send-keys -t first C-q
-    wait_for 60 shows_in first status
+    wait_for shows_in first status
     close_editors first
     same 'orphans, the next start sweeps' "$(for each in "$folder"/state/bidi_edit/2*; do echo "${each##*/}"; done | grep -v "^$(date +%Y)" | paste -s -d ' ')" "$wanted_left"
     same 'orphans, the next start sweeps what was left' "$(ls -d "$left" 2>/dev/null)" ''

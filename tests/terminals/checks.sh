@@ -71,8 +71,8 @@ check_terminal() { # KIND
 # Starts the editor with this FILE, or words and a FILE, and keeps its first picture under this name.
 open_editor() { # FILE PICTURE
     give "'$top/bidi-edit' $1 2>../errors"
-    wait_for 200 is_raw
-    wait_for 200 has_status
+    wait_for is_raw
+    wait_for has_status
     # for what the terminal still draws
     sleep 0.5
     take_picture "$2"
@@ -84,7 +84,7 @@ let_save() { sleep 0.5; }
 # Leaves the editor, and waits for the shell.
 leave_editor() { # NAME
     press ctrl+q
-    wait_for 200 has_obeyed
+    wait_for has_obeyed
     report "$1, its end" $? 'the editor goes on'
 }
 
@@ -191,7 +191,7 @@ check_clusters() { # KIND
 check_text() { # KIND
     rm -f "$room/read"
     printf '\033[i' >"$(cat "$room/tty")"
-    wait_for 50 test -s "$room/read"
+    wait_for test -s "$room/read"
     same "$1, the screen's text" "$(sed -e 's/[[:space:]]*$//' -e 2q "$room/read")" "$(cat "$room/files/rows")"
 }
 
@@ -351,17 +351,17 @@ check_control_keys() { # KIND
 # The editor's title is there meanwhile only where the terminal gives the old one back; the shell's is there afterwards.
 check_title() { # KIND
     order "printf '\033]2;before\007'"
-    wait_for 50 has_title '*before*' || report "$1, a title of before" 1 "$(title)"
+    wait_for has_title '*before*' || report "$1, a title of before" 1 "$(title)"
     open_editor text "$1-title"
     if keeps_title "$1"; then
-        wait_for 20 has_title '*^S save ^Q quit*'
+        wait_for has_title '*^S save ^Q quit*'
         report "$1, title" $? "$(title)"
     else
         has_title '*before*'
         report "$1, title" $? "$(title)"
     fi
     leave_editor "$1, title"
-    wait_for 50 has_title '*before*'
+    wait_for has_title '*before*'
     report "$1, title at the end" $? "$(title)"
 }
 

@@ -39,7 +39,7 @@ start_kitty() {
 start_foot() {
     weston --backend=x11-backend.so --use-pixman --shell=kiosk-shell.so --width=604 --height=184 --no-config --socket=bx --idle-time=0 &
     compositor=$!
-    wait_for 50 test -S "$XDG_RUNTIME_DIR/bx"
+    wait_for test -S "$XDG_RUNTIME_DIR/bx"
     WAYLAND_DISPLAY=bx foot --font=FreeMono:size=12 sh "$room/shell" &
     foot=$!
     trap 'kill $foot $compositor' TERM
