@@ -21,11 +21,10 @@ static volatile int64_t end_time;
 
 /* The signals that were blocked when the host was started, and those that are blocked while it waits. */
 static sigset_t first_mask, waiting_mask;
-static bool was_pipe_ignored, was_size_ignored;
+static bool was_pipe_ignored, was_size_ignored, is_stop_ignored;
 
 /* Signals that ask the host to end. Others that end a process do so at once, and the watcher restores the terminal. */
-static const int ending[] = {SIGHUP, SIGINT, SIGQUIT, SIGTERM, SIGUSR1, SIGUSR2, SIGALRM,
-                             SIGXCPU, SIGVTALRM, SIGPROF, SIGIO, SIGPWR, SIGSTKFLT};
+static const int ending[] = {SIGHUP, SIGINT, SIGQUIT, SIGTERM, SIGUSR1, SIGUSR2};
 static const int waking[] = {SIGWINCH, SIGCONT, SIGCHLD};
 /* The signal that asks for a stop, before which the terminal is restored. */
 static const int stopping[] = {SIGTSTP};
@@ -55,16 +54,14 @@ static void note_waking(int number) {
     if (number == SIGTSTP) is_stop_asked = 1;
 }
 
-static bool is_ignored(int number) {
-    struct sigaction before;
-    return sigaction(number, NULL, &before) != 0 || before.sa_handler == SIG_IGN;
-}
-
-/* Has a signal handled by this function from now on. No call is begun again that it interrupts. */
-static void handle(int number, void (*handler)(int)) {
-    struct sigaction action = {.sa_handler = handler};
+/* Has a signal handled by this function from now on. No call is begun again that it interrupts. Returns whether the caller of the host ignored it,
+ * which stays so unless it only wakes the host. */
+static bool handle(int number, void (*handler)(int)) {
+    struct sigaction action = {.sa_handler = handler}, before;
     sigemptyset(&action.sa_mask);
-    sigaction(number, &action, NULL);
+    bool is_ignored = sigaction(number, &action, &before) == 0 && before.sa_handler == SIG_IGN;
+    if (is_ignored && number != SIGCHLD && number != SIGCONT && number != SIGWINCH) sigaction(number, &before, NULL);
+    return is_ignored;
 }
 
 /* Blocks signals except while the host waits (`waiting_mask`). */
@@ -85,26 +82,22 @@ void set_first_signals(void) {
     block(child, 1);
     handle(SIGCHLD, note_waking);
     /* a write to a pipe without a reader, or beyond a size limit, fails */
-    was_pipe_ignored = is_ignored(SIGPIPE);
-    was_size_ignored = is_ignored(SIGXFSZ);
-    signal(SIGPIPE, SIG_IGN);
-    signal(SIGXFSZ, SIG_IGN);
+    was_pipe_ignored = signal(SIGPIPE, SIG_IGN) == SIG_IGN;
+    was_size_ignored = signal(SIGXFSZ, SIG_IGN) == SIG_IGN;
 }
 
 void catch_signals(void) {
     block(ending, ENDING);
     block(waking, WAKING);
-    for (size_t i = 0; i < ENDING; i++)
-        if (!is_ignored(ending[i])) handle(ending[i], note_end);
+    for (size_t i = 0; i < ENDING; i++) handle(ending[i], note_end);
     for (size_t i = 0; i < WAKING; i++) handle(waking[i], note_waking);
-    if (is_ignored(SIGTSTP)) return;
-    block(stopping, 1);
-    handle(SIGTSTP, note_waking);
+    is_stop_ignored = handle(SIGTSTP, note_waking);
+    if (!is_stop_ignored) block(stopping, 1);
 }
 
 void let_stops_in(void) {
     sigset_t mask;
-    if (is_ignored(SIGTSTP)) return;
+    if (is_stop_ignored) return;
     signal(SIGTSTP, SIG_DFL);
     if (is_stop_asked) kill(getpid(), SIGTSTP);
     is_stop_asked = 0;

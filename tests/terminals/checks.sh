@@ -367,6 +367,8 @@ check_title() { # KIND
 
 # The first start in a terminal that mirrors words, unless it is set not to, says so in the last row, until a key is pressed.
 check_hint() { # KIND
+    # of an earlier start under its variables
+    rm -f "$HOME"/.local/state/bidi_edit/hint-*
     open_editor text "$1-hint"
     press Right Left
     take_picture "$1-no-hint"
