@@ -2,11 +2,9 @@
 #include <ctype.h>
 #include <errno.h>
 #include <poll.h>
-#include <stdbool.h>
 #include <stddef.h>
 #include <stdint.h>
 #include <stdio.h>
-#include <stdlib.h>
 #include <string.h>
 #include <sys/socket.h>
 #include <sys/un.h>
@@ -16,59 +14,42 @@
 #include "edit.h"
 #include "say.h"
 #include "terminal.h"
+#include "util.h"
 
-/* A terminal takes no longer line than that. */
-enum { MOST_LINE = 4096 };
-
-/* Reads one line, without its end and NUL. Returns false where the input ends before: then there is no answer. */
-static bool read_answer(char answer[MOST_LINE]) {
-    size_t length = 0;
-    while (length < MOST_LINE) {
-        ssize_t count = read(terminal_line, answer + length, 1);
-        if (count == 0 || (count < 0 && errno != EAGAIN && errno != EINTR)) return false;
-        if (count < 0) {
-            /* signals end the host here, since none is caught yet */
-            struct pollfd wanted = {.fd = terminal_line, .events = POLLIN};
-            poll(&wanted, 1, -1);
-            continue;
-        }
-        if (answer[length] == '\n') {
-            answer[length] = 0;
-            return true;
-        }
-        if (answer[length] != 0) length++;
-    }
-    return false;
-}
-
-/* An answer without blanks around it and in small letters, in the same memory. */
-static const char *small(char *answer) {
-    size_t length = strlen(answer);
-    while (length > 0 && isspace((unsigned char)answer[length - 1])) answer[--length] = 0;
-    while (isspace((unsigned char)*answer)) answer++;
-    for (char *at = answer; *at; at++)
-        if (*at >= 'A' && *at <= 'Z') *at = (char)(*at - 'A' + 'a');
-    return answer;
-}
-
-/* Asks once. What was typed before the question is no answer to it, and is dropped. Returns NULL where the input ends. */
-static const char *ask(const char *question) {
-    static char answer[MOST_LINE];
+/* Asks once. What was typed before the question is no answer to it, and is dropped. Returns the line without blanks around it and in small
+ * letters; NULL where the input ends. */
+static char *ask(const char *question) {
+    static char line[4096];
+    char *answer = line;
     tcflush(terminal_line, TCIFLUSH);
     put_text(terminal_line, text_of("%s ", question));
-    if (read_answer(answer)) return small(answer);
-    put_text(terminal_line, "\n");
-    return NULL;
+    for (size_t length = 0; length + 1 < sizeof line && (length == 0 || line[length - 1] != '\n');) {
+        struct pollfd wanted = {.fd = terminal_line, .events = POLLIN};
+        ssize_t count = read(terminal_line, line + length, sizeof line - 1 - length);
+        /* signals end the host here, since none is caught yet */
+        if (count < 0 && (errno == EAGAIN || errno == EINTR)) poll(&wanted, 1, -1);
+        else if (count <= 0) answer = NULL;
+        if (!answer) break;
+        length += count > 0 ? (size_t)count : 0;
+        line[length] = 0;
+    }
+    if (!answer) {
+        put_text(terminal_line, "\n");
+        return NULL;
+    }
+    while (isspace((unsigned char)*answer)) answer++;
+    for (char *at = answer; *at; at++) *at = *at >= 'A' && *at <= 'Z' ? (char)(*at - 'A' + 'a') : *at;
+    for (size_t length = strlen(answer); length > 0 && isspace((unsigned char)answer[length - 1]);) answer[--length] = 0;
+    return answer;
 }
 
 /* Asks until the answer is one of two words. Returns 0 or 1, or -1 where the input ends. */
 static int ask_either(const char *question, const char *one, const char *other) {
-    for (;;) {
-        const char *answer = ask(question);
-        if (!answer) return -1;
+    for (const char *answer = ask(question); answer; answer = ask(question)) {
         if (is_word(answer, one)) return 0;
         if (is_word(answer, other)) return 1;
     }
+    return -1;
 }
 
 bool ask_to_go_on(const char *question) {
@@ -76,17 +57,15 @@ bool ask_to_go_on(const char *question) {
 }
 
 enum choice ask_choice(void) {
-    for (;;) {
-        const char *answer = ask("[r]ecover, [d]elete for good, [l]ater?");
-        enum choice choice = answer ? choice_of(answer) : CHOICE_NONE;
-        if (!answer) return CHOICE_NONE;
-        if (choice == CHOICE_ASK_AGAIN) {
-            int sure = ask_either("Delete it for good (yes, no)?", "yes", "no");
-            if (sure < 0) return CHOICE_NONE;
-            choice = sure == 0 ? CHOICE_DELETE : CHOICE_NONE;
-        }
-        if (choice != CHOICE_NONE) return choice;
+    static const char question[] = "[r]ecover, [d]elete for good, [l]ater?";
+    for (const char *answer = ask(question); answer; answer = ask(question)) {
+        enum choice choice = choice_of(answer);
+        int sure = choice == CHOICE_ASK_AGAIN ? ask_either("Delete it for good (yes, no)?", "yes", "no") : 1;
+        if (sure < 0) return CHOICE_NONE;
+        if (sure == 0) return CHOICE_DELETE;
+        if (choice != CHOICE_ASK_AGAIN && choice != CHOICE_NONE) return choice;
     }
+    return CHOICE_NONE;
 }
 
 enum rest ask_rest(void) {
@@ -96,47 +75,28 @@ enum rest ask_rest(void) {
 
 /* ---- other editors of the user's that have FILE open and may keep no session */
 
-/* The socket by which others see this process, and its name, which is in no folder. */
-static int own = -1;
-static struct sockaddr_un own_name;
-
-/* A hash of a name (FNV-1a): the name itself may be too long for the name of a socket. */
-static uint64_t hash_of(const char *name) {
-    uint64_t number = 14695981039346656037u;
-    for (; *name; name++) number = (number ^ (unsigned char)*name) * 1099511628211u;
-    return number;
-}
-
-/* The process that listens at a socket's name; 0 if it is not one of the user's, -1 if its number is unknown. */
-static pid_t listener_at(const struct sockaddr_un *address, socklen_t length) {
-    struct ucred peer = {0, 0, 0};
-    socklen_t size = sizeof peer;
-    int file = socket(AF_UNIX, SOCK_STREAM | SOCK_CLOEXEC | SOCK_NONBLOCK, 0);
-    if (file < 0) return 0;
-    bool is_there = connect(file, (const struct sockaddr *)address, length) == 0;
-    bool is_full = !is_there && errno == EAGAIN;
-    if (!is_there || getsockopt(file, SOL_SOCKET, SO_PEERCRED, &peer, &size) != 0 || peer.uid != geteuid()) peer.pid = is_full ? -1 : 0;
-    close(file);
-    return peer.pid;
-}
-
+/* They see this process by a socket. Its name begins with NUL, so it is no path. It has the folder's number and a hash of FILE's name (FNV-1a),
+ * which may be too long: a rename of the folder changes no number, and a save changes FILE's own number. */
 pid_t note_open_file(const struct file *file) {
+    static int own = -1;
+    static struct sockaddr_un own_name;
     struct sockaddr_un address = {.sun_family = AF_UNIX};
-    /* The name begins with NUL, so it is no path. It has the folder's number and FILE's name: a rename of the folder changes no number, and
-     * a save changes FILE's own number. */
-    int length = snprintf(address.sun_path + 1, sizeof address.sun_path - 1, "bidi-edit.%u.%ju.%ju.%ju", (unsigned)geteuid(),
-                          (uintmax_t)file->folder_id.device, (uintmax_t)file->folder_id.inode, (uintmax_t)hash_of(file->name));
-    socklen_t size = (socklen_t)(offsetof(struct sockaddr_un, sun_path) + 1 + (size_t)length);
+    struct ucred peer = {0, 0, 0};
+    socklen_t length = sizeof peer;
+    uint64_t hash = 14695981039346656037u;
+    for (const char *at = file->name; *at; at++) hash = (hash ^ (unsigned char)*at) * 1099511628211u;
+    int count = snprintf(address.sun_path + 1, sizeof address.sun_path - 1, "bidi-edit.%u.%ju.%ju.%ju", (unsigned)geteuid(),
+                         (uintmax_t)file->folder_id.device, (uintmax_t)file->folder_id.inode, (uintmax_t)hash);
+    socklen_t size = (socklen_t)(offsetof(struct sockaddr_un, sun_path) + 1 + (size_t)count);
     if (own >= 0 && memcmp(&own_name, &address, sizeof address) == 0) return 0;
-    if (own >= 0) close(own);
+    close_one(&own);
     own_name = address;
-    own = socket(AF_UNIX, SOCK_STREAM | SOCK_CLOEXEC, 0);
-    if (own < 0) return 0;
-    if (bind(own, (struct sockaddr *)&address, size) == 0 && listen(own, SOMAXCONN) == 0) return 0;
-    bool is_taken = errno == EADDRINUSE;
-    close(own);
-    own = -1;
-    return is_taken ? listener_at(&address, size) : 0;
+    own = socket(AF_UNIX, SOCK_STREAM | SOCK_CLOEXEC | SOCK_NONBLOCK, 0);
+    if (own < 0 || (bind(own, (struct sockaddr *)&address, size) == 0 && listen(own, SOMAXCONN) == 0)) return 0;
+    bool is_there = errno == EADDRINUSE && connect(own, (struct sockaddr *)&address, size) == 0, is_full = !is_there && errno == EAGAIN;
+    if (!is_there || getsockopt(own, SOL_SOCKET, SO_PEERCRED, &peer, &length) != 0 || peer.uid != geteuid()) peer.pid = is_full ? -1 : 0;
+    close_one(&own);
+    return peer.pid;
 }
 
 /* ---- the list of all sessions, and their removal */
@@ -150,52 +110,40 @@ const char *time_text(const struct session *session) {
 }
 
 const char *machine_text(const struct session *session) {
-    struct process process;
-    if (!session_process(session, &process)) return "unknown";
-    return strcmp(process.machine, this_process()->machine) == 0 ? NULL : shown(process.machine);
+    const struct process *process = &session->about.process;
+    if (!session->about.has_process) return "unknown";
+    return strcmp(process->machine, this_process()->machine) == 0 ? NULL : shown(process->machine);
 }
 
-/* What the list of sessions adds to a session that is not merely unfinished. */
-static const char *note_of(const struct session *session) {
-    enum session_state state = session_state(session);
-    if (state == SESSION_LIVE) return " (open now)";
-    if (state == SESSION_ELSEWHERE) {
-        const char *machine = machine_text(session);
-        return text_of(" (on %s)", machine ? machine : THIS_MACHINE);
-    }
-    if (session_has(session, PART_BACKUP)) return " (a save was interrupted)";
-    return state == SESSION_DROPPED ? " (dropped)" : "";
-}
-
-/* Lists a session, if it can be recovered. */
+/* Lists a session, if it can be recovered, and notes what is not merely unfinished. */
 static bool list_session(const struct session *session) {
+    enum session_state state = session_state(session);
+    const char *machine = machine_text(session), *note = state == SESSION_DROPPED ? " (dropped)" : "";
     if (!session_has_something(session)) return false;
-    char *path = session_note(session, PART_PATH);
-    const char *line = text_of("%s  keys: %zu  KB: %llu  %s%s\n", time_text(session), session_count_keys(session),
-                               (unsigned long long)session_kilobytes(session), shown(path ? path : ""), note_of(session));
-    free(path);
-    put_text(STDOUT_FILENO, line);
+    if (session_has(session, BACKUP_NAME)) note = " (a save was interrupted)";
+    if (state == SESSION_ELSEWHERE) note = text_of(" (on %s)", machine ? machine : THIS_MACHINE);
+    if (state == SESSION_LIVE) note = " (open now)";
+    put_text(STDOUT_FILENO, text_of("%s  keys: %zu  KB: %llu  %s%s\n", time_text(session), session_count_keys(session),
+                                    (unsigned long long)session_kilobytes(session), shown(session->about.path), note));
     return true;
 }
 
-/* Whether a folder of sessions can be used. Warns of one that others could change. */
-static bool is_usable(const struct sessions *sessions) {
+/* Finds the folder of sessions. Warns if others could change it; then it is not used. */
+static void find_sessions(struct sessions *sessions) {
     enum notice notice;
+    sessions_find(sessions);
     if (sessions->state == FOLDER_DISTRUSTED) warn("a folder of sessions is ignored: %s", unkept_by(sessions, &notice));
-    return sessions->state == FOLDER_READY;
 }
 
 int list_sessions(void) {
-    struct sessions *all;
-    size_t count = sessions_find_all(&all), listed = 0;
-    for (size_t i = 0; i < count; i++) {
-        struct walk walk;
-        if (!is_usable(&all[i])) continue;
-        walk_begin(&walk, &all[i]);
-        while (walk_next_own(&walk)) listed += list_session(&walk.session);
-        walk_end(&walk);
-    }
-    sessions_close_all(all, count);
+    struct sessions sessions;
+    struct walk walk;
+    size_t listed = 0;
+    find_sessions(&sessions);
+    walk_begin(&walk, &sessions);
+    while (walk_next_own(&walk)) listed += list_session(&walk.session);
+    walk_end(&walk);
+    sessions_close(&sessions);
     if (listed == 0) tell("there are no sessions to recover");
     return 0;
 }
@@ -211,45 +159,22 @@ static void tell_forgotten(void *context, const struct forgotten *forgotten) {
     char time[32] = "";
     if (forgotten->has_time) time_words(&forgotten->changed, time);
     const char *name = text_of("the session of %s%s%s", shown(forgotten->path), *time ? " from " : "", time);
-    if (forgotten->error != 0) {
-        counts->kept++;
-        warn("%s cannot be deleted%s", name, fault_words(forgotten->error));
-    } else {
-        counts->removed++;
-        tell("%s is deleted%s", name, forgotten->was_dropped ? " (dropped)" : "");
-    }
+    if (forgotten->cause) warn("%s cannot be deleted%s", name, fault_words(forgotten->cause));
+    else tell("%s is deleted%s", name, forgotten->was_dropped ? " (dropped)" : "");
+    counts->kept += forgotten->cause != 0;
+    counts->removed += forgotten->cause == 0;
 }
 
-/* Removes the sessions of all files in every folder that may have some. */
-static void forget_all_sessions(struct counts *counts) {
-    struct sessions *all;
-    size_t count = sessions_find_all(&all);
-    for (size_t i = 0; i < count; i++)
-        if (is_usable(&all[i])) sessions_forget(&all[i], NULL, tell_forgotten, counts);
-    sessions_close_all(all, count);
-}
-
-/* Removes the ended sessions of FILE, also where another name of it has them. */
-static int forget_sessions_of(const char *typed, struct counts *counts) {
-    static struct edit edit;
-    struct sessions *near;
-    int status = find_file(&edit, typed, true);
-    if (status != GO_ON) return status;
-    if (edit.sessions.state == FOLDER_READY) sessions_forget(&edit.sessions, &edit.target, tell_forgotten, counts);
-    size_t count = sessions_find_near(&edit.sessions, &near);
-    for (size_t i = 0; i < count; i++)
-        if (near[i].state == FOLDER_READY) sessions_forget(&near[i], &edit.target, tell_forgotten, counts);
-    sessions_close_all(near, count);
-    close_edited(&edit);
-    return GO_ON;
-}
-
+/* Of FILE, also those go that another name of it has. */
 int forget_sessions(const char *typed) {
+    static struct edit edit;
     struct counts counts = {0, 0};
-    int status = GO_ON;
-    if (typed) status = forget_sessions_of(typed, &counts);
-    else forget_all_sessions(&counts);
+    int status = typed ? find_file(&edit, typed, true) : GO_ON;
     if (status != GO_ON) return status;
+    if (!typed) find_sessions(&edit.sessions);
+    sessions_forget(&edit.sessions, typed ? &edit.target : NULL, tell_forgotten, &counts);
+    if (typed) close_edited(&edit);
+    else sessions_close(&edit.sessions);
     if (counts.removed + counts.kept == 0 && typed) tell("there is no session of %s to delete", shown(typed));
     if (counts.removed + counts.kept == 0 && !typed) tell("there are no sessions to delete");
     return counts.kept > 0 ? STATUS_FAULT : 0;

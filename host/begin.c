@@ -12,10 +12,10 @@
 #include "terminal.h"
 #include "util.h"
 
-/* Seconds that a message stays before the screen hides it. */
-enum { PAUSE = 1 };
+/* Seconds: that a message stays before the screen hides it; after which a notice that keys have hidden is shown again. */
+enum { PAUSE = 1, HIDDEN = 5 };
 
-/* Bits of a mode by which others than the owner read. */
+/* Bits of a mode: by which others than the owner read; all of theirs. */
 enum { READ_BY_OTHERS = 044 };
 
 /* ---- FILE */
@@ -29,28 +29,30 @@ void close_edited(struct edit *edit) {
 
 int find_file(struct edit *edit, const char *typed, bool is_lost) {
     close_edited(edit);
-    const char *refusal = is_lost ? open_lost_file(&edit->file, typed) : open_file(&edit->file, typed);
-    if (refusal) {
-        warn("%s", refusal);
+    enum cause cause = is_lost ? open_lost_file(&edit->file, typed) : open_file(&edit->file, typed);
+    if (cause != CAUSE_NONE) {
+        warn("%s", file_message(&edit->file, cause, 0));
         edit->file.typed = NULL;
         return STATUS_FAULT;
     }
     const struct file *file = &edit->file;
-    sessions_find(&edit->sessions, file->folder);
-    edit->target = (struct target){.path = file->path, .folder = -1, .name = file->name};
-    if (!file->is_lost) target_look(&edit->target, file->path, file->folder, file->name);
+    sessions_find(&edit->sessions);
+    edit->target = (struct target){.path = file->path, .folder = file->is_lost ? -1 : file->folder, .name = file->name,
+                                   .is_there = file->stamp.is_there && file->itself >= 0, .id = file->id};
     edit->reason = find_in_place(&file->facts, &file->stamp, &file->folder_facts);
     return GO_ON;
 }
 
-const char *find_versions(const struct edit *edit, char words[MOST_WORDS]) {
-    const char *files[] = {edit->programs->editor, edit->tables.classes, edit->tables.brackets, edit->tables.mirroring};
+const char *find_versions(const struct programs *programs, const struct tables *tables, char words[MOST_WORDS]) {
+    const char *files[] = {programs->editor, tables->classes, tables->brackets, tables->mirroring};
     return versions_look(EDITOR_VERSION, files, sizeof files / sizeof *files, words);
 }
 
 bool tell_mended(const struct edit *edit, const struct mending *mending, void (*say)(const char *format, ...)) {
     const char *file = shown(edit->file.typed);
     if (mending->mended == MENDED_PUT_BACK) say("a save of %s was interrupted; its whole text has been restored", file);
+    if (mending->mended == MENDED_NOT)
+        say("%s has only a part of what was saved last, and may have been cut by another program: the whole text is in %s", file, shown(mending->backup));
     if (mending->mended == MENDED_STILL_TORN)
         say("a save of %s was interrupted, and its text cannot be restored: the whole text is in %s", file, shown(mending->backup));
     return mending->mended == MENDED_STILL_TORN;
@@ -79,9 +81,9 @@ bool mend_file(struct edit *edit) {
 }
 
 int check_access(const struct edit *edit) {
-    const char *refusal = edit->call->is_forced ? NULL : refuse_access(&edit->file, edit->reason != NO_REASON);
-    if (refusal) warn("%s", refusal);
-    return refusal ? STATUS_FAULT : GO_ON;
+    enum cause cause = edit->call->is_forced ? CAUSE_NONE : check_access_to(&edit->file, edit->reason != NO_REASON);
+    if (cause != CAUSE_NONE) warn("%s", file_message(&edit->file, cause, 0));
+    return cause != CAUSE_NONE ? STATUS_FAULT : GO_ON;
 }
 
 int check_file(struct edit *edit, const char *typed) {
@@ -99,43 +101,57 @@ const char *unkept_by(const struct sessions *sessions, enum notice *notice) {
     switch (sessions->state) {
     case FOLDER_NOWHERE: return "there is no folder for it (is HOME set?)";
     case FOLDER_DISTRUSTED: return text_of("%s belongs to another user, or others can write to it", shown(sessions->distrusted));
-    case FOLDER_UNUSABLE: *notice = notice_of(sessions->error); return text_of("nothing can be written in %s", shown(sessions->path));
+    case FOLDER_UNUSABLE: *notice = notice_of(sessions->cause); return text_of("nothing can be written in %s", shown(sessions->path));
     default: *notice = NOTICE_NONE; return NULL;
     }
 }
 
-/* Makes the session. If that is impossible, `unkept` says why. */
-static void try_session(struct edit *edit) {
-    const struct file *file = &edit->file;
-    const struct stat *found = &file->stamp.found;
-    struct opening opening = {.target = &edit->target, .file = file->text, .mode = -1, .begin = edit->begin,
-                              .is_joined = edit->is_joined, .versions = edit->versions};
-    if (file->stamp.is_there) {
-        opening.mode = (int)(found->st_mode & PERMISSIONS);
-        opening.is_secret = found->st_uid == 0 && (found->st_mode & READ_BY_OTHERS) == 0;
-    }
-    sessions_make(&edit->sessions);
-    edit->unkept = unkept_by(&edit->sessions, &edit->unkept_notice);
-    if (edit->unkept) return;
-    sessions_sweep(&edit->sessions);
-    int error = session_begin(&edit->session, &edit->sessions, &opening);
-    if (error == 0 && edit->session.is_waiting) error = edit->session.error;
-    if (error == 0) return;
-    const char *path = shown(edit->sessions.path);
-    edit->unkept_notice = notice_of(error);
-    edit->unkept = edit->unkept_notice == NOTICE_NO_SPACE ? text_of("there is no space in %s", path) : text_of("nothing can be written in %s", path);
+/* The facts of a new session. */
+static void note_facts(const struct edit *edit, struct about *about) {
+    const struct stat *found = &edit->file.stamp.found;
+    about_clear(about);
+    put_path(about->path, "%s", edit->target.path);
+    about->has_id = edit->target.is_there;
+    about->id = edit->target.id;
+    about->has_begin = about->has_process = true;
+    about->begin = edit->begin;
+    about->process = *this_process();
+    memcpy(about->versions, edit->versions, sizeof about->versions);
+    if (!edit->is_joined) about->marks |= MARK_UNJOINED;
+    if (edit->reason != NO_REASON) about->marks |= MARK_IN_PLACE;
+    if (!edit->file.stamp.is_there) return;
+    about->mode = (int)(found->st_mode & PERMISSIONS);
+    if (found->st_uid == 0 && (found->st_mode & READ_BY_OTHERS) == 0) about->marks |= MARK_SECRET;
 }
 
-/* Records in the session that its saves overwrite FILE in place. A session that waits for space is abandoned, since such a save needs
- * the space at once. */
-static bool note_in_place(struct edit *edit) {
+/* Makes the session. If that is impossible, `unkept` says why. */
+static void try_session(struct edit *edit) {
+    static struct about about;
+    const char *path = shown(edit->sessions.path);
+    sessions_make(&edit->sessions);
+    edit->unkept = unkept_by(&edit->sessions, &edit->unkept_notice);
+    if (!edit->unkept && is_in_memory(edit->file.folder) && !is_in_memory(edit->sessions.folder)) {
+        edit->is_in_memory = true;
+        edit->unkept_notice = NOTICE_UNKEPT;
+        edit->unkept = text_of("%s is in memory, and no disk may have its text", shown(edit->file.typed));
+    }
+    if (edit->unkept) return;
+    note_facts(edit, &about);
+    enum cause cause = session_begin(&edit->session, &edit->sessions, &about, edit->file.text);
+    if (!cause) cause = edit->session.cause;
+    if (!cause) return;
+    edit->unkept_notice = notice_of(cause);
+    edit->unkept = cause == CAUSE_NO_SPACE ? text_of("there is no space in %s", path) : text_of("nothing can be written in %s", path);
+}
+
+/* Whether there is a session for saves that overwrite FILE. One that waits for space is abandoned, since such a save needs the space at
+ * once. */
+static bool has_session_in_place(struct edit *edit) {
     struct session *session = &edit->session;
     if (session_is_none(session)) return false;
-    if (!session->is_waiting && session_put(session, PART_PLACE, edit->file.path, strlen(edit->file.path)) == 0) return true;
-    if (!session->is_waiting) return false;
+    if (!session->cause) return session_has_mark(session, MARK_IN_PLACE) || session_mark(session, MARK_IN_PLACE) == CAUSE_NONE;
     session_remove(session);
     session_close(session);
-    session_clear(session);
     return false;
 }
 
@@ -145,7 +161,7 @@ static bool note_in_place(struct edit *edit) {
 static int settle_in_place(struct edit *edit) {
     if (edit->reason == NO_REASON) return GO_ON;
     const char *file = shown(edit->file.typed), *reason = reason_text(edit->reason);
-    edit->is_in_place = note_in_place(edit);
+    edit->is_in_place = has_session_in_place(edit);
     edit->is_itself = !edit->is_in_place && edit->call->is_forced && edit->reason != REASON_PROTECTED;
     if (edit->is_in_place || edit->is_itself) {
         warn("%s %s: saves overwrite it in place", file, reason);
@@ -161,7 +177,7 @@ static void tell_unkept(const struct edit *edit) {
     struct timespec pause = {.tv_sec = PAUSE};
     if (!edit->unkept) return;
     warn("unsaved text is not kept, since %s", edit->unkept);
-    if (edit->call->is_unkept) return;
+    if (edit->call->is_unkept || edit->is_in_memory) return;
     put_text(STDERR_FILENO, "\a");
     nanosleep(&pause, NULL);
 }
@@ -190,11 +206,12 @@ int resume_session(struct edit *edit) {
     struct size size;
     measure(&size);
     edit->is_resumed = true;
-    if (!session_begin_words(session, &edit->begin)) edit->begin = (struct begin){.rows = size.rows, .cols = size.columns, .direction = "auto"};
-    edit->is_joined = edit->is_joined && !session_has(session, PART_UNJOINED);
+    edit->begin = session->about.begin;
+    edit->is_joined = edit->is_joined && !session_has_mark(session, MARK_UNJOINED);
     session_resume(session, size.rows, size.columns);
-    if (!edit->is_joined) session_put_empty(session, PART_UNJOINED);
-    if (!edit->file.stamp.is_there && session_has(session, PART_MODE)) edit->lost_mode = (int)session_mode(session);
+    if (!edit->is_joined) session->about.marks |= MARK_UNJOINED;
+    session->is_about_due = true;
+    if (!edit->file.stamp.is_there) edit->lost_mode = session->about.mode;
     return settle_in_place(edit);
 }
 
@@ -214,7 +231,7 @@ static void add_text(struct edit *edit, struct words *words) {
     const char *journal = is_kept ? handed_path(run, session->journal) : NULL;
     int source = is_kept ? session->source : edit->file.text;
     if (edit->is_resumed) {
-        if (session_has(session, PART_UNSAVED)) add_word(words, "--unsaved");
+        if (session_has_mark(session, MARK_UNSAVED)) add_word(words, "--unsaved");
         add_option(words, "--text", handed_path(run, session->text));
         add_option(words, "--replay", journal);
     } else if (source >= 0) {
@@ -228,7 +245,7 @@ static void add_text(struct edit *edit, struct words *words) {
 }
 
 /* The program's arguments for this session. FILE's name comes last, as struct run has it. */
-static void make_words(struct edit *edit, struct words *words) {
+static void make_edit_words(struct edit *edit, struct words *words) {
     add_option(words, "--direction", edit->begin.direction);
     if (edit->begin.line > 0) add_option(words, "--line", text_of("%u", edit->begin.line));
     add_tables(words, &edit->tables, edit->is_joined);
@@ -244,66 +261,53 @@ static void make_titles(struct edit *edit) {
     for (size_t i = 0; i < sizeof notes / sizeof *notes; i++) edit->titles[i] = text_of("%s - ^S save ^Q quit F1 keys%s", name, notes[i]);
 }
 
-/* Called once the program has read FILE: FILE is copied into the session, and closed after that. */
+/* Called once the program has read FILE: the keeper copies FILE into the session. */
 static void on_opened(void *whose) {
     struct edit *edit = whose;
-    bool is_kept = !session_is_none(&edit->session);
-    if (is_kept) session_fill(&edit->session);
-    else edit->had_all_crlf = edit->file.text >= 0 && has_all_crlf(edit->file.text);
-    if (!is_kept || edit->is_resumed) release_file(&edit->file);
+    struct session *session = &edit->session;
+    if (!session_is_none(session) && !keeper_start(edit)) return;
+    /* the keeper has them; the end of a process that has such a file open may wait for its disk */
+    release_file(&edit->file);
+    close_one(&session->source);
+    close_one(&session->text);
+    close_one(&session->journal);
 }
 
 static void on_journal(void *whose, bool is_kept) {
     struct edit *edit = whose;
     edit->facts.is_journal_lost = !is_kept;
+    keeper_note_journal(is_kept);
 }
 
-/* A successful save replaces FILE by a new file. The session records that file, by which it is found later. */
 static void on_saved(void *whose) {
     struct edit *edit = whose;
-    struct file_stamp stamp;
     if (saver_cause(&edit->saver) != 0) return;
     edit->was_saved = true;
-    if (session_is_none(&edit->session) || !saver_stamp(&edit->saver, &stamp, &edit->target.id)) return;
-    edit->target.is_there = stamp.is_there;
-    session_note_file(&edit->session, &edit->target);
-}
-
-/* The probable reason why the program cannot write the journal. */
-static enum notice cause_of_loss(const struct session *session) {
-    if (free_room(session->folder) < ROOM_FOR_KEYS) return NOTICE_NO_SPACE;
-    int file = openat(session->folder, part_name(PART_JOURNAL), O_WRONLY | O_APPEND | O_NOFOLLOW | O_CLOEXEC);
-    enum notice notice = file < 0 ? notice_of(errno) : NOTICE_UNKEPT;
-    if (file >= 0) close(file);
-    return notice == NOTICE_FOLDER_GONE ? NOTICE_UNKEPT : notice;
+    keeper_note_save();
 }
 
 /* Shows in the title and the last row why no copy is kept, or that one is kept again, and rings the bell for a new cause. A notice
  * that a key has hidden is shown again. */
 static void tell_trouble(struct edit *edit) {
-    struct session *session = &edit->session;
     struct now_facts *facts = &edit->facts;
-    facts->keeping = session_mind(session);
-    facts->error = session->error;
-    facts->is_filled = session->is_filled;
-    if (facts->is_filled) release_file(&edit->file);
-    if (facts->is_journal_lost) facts->journal = cause_of_loss(session);
+    keeper_hear(facts);
     enum notice trouble = trouble_now(facts);
-    edit->notice.is_new = trouble != facts->told;
-    edit->notice.is_typed_since = was_typed() || edit->notice.is_typed_since;
-    edit->notice.seconds_since++;
+    bool is_new = trouble != facts->told;
+    edit->is_typed_since = was_typed() || edit->is_typed_since;
+    edit->seconds_since++;
     facts->told = trouble;
-    if (edit->notice.is_new) {
+    if (is_new) {
         show_title(edit->titles[title_note_of(facts, trouble)]);
         if (trouble != NOTICE_NONE) ring();
-    } else if (trouble == NOTICE_NONE || !is_notice_due(&edit->notice)) {
+    } else if (trouble == NOTICE_NONE || !edit->is_typed_since || edit->seconds_since < HIDDEN) {
         return;
     }
     give_notice(trouble != NOTICE_NONE ? trouble : NOTICE_KEPT_AGAIN);
-    edit->notice = (struct notice_facts){0};
+    edit->is_typed_since = false;
+    edit->seconds_since = 0;
 }
 
-/* For struct run: looks after the session, and returns whether the program shall try its journal again. */
+/* For struct run: tells what the keeper has found, and returns whether the program shall try its journal again. */
 static bool on_second(void *whose) {
     struct edit *edit = whose;
     if (edit->facts.has_session) tell_trouble(edit);
@@ -314,11 +318,11 @@ static bool on_second(void *whose) {
  * not repeat it. */
 static void begin_facts(struct edit *edit) {
     struct session *session = &edit->session;
-    bool has_session = !session_is_none(session), is_waiting = has_session && session->is_waiting;
+    bool has_session = !session_is_none(session), is_waiting = has_session && session->cause;
     edit->facts = (struct now_facts){.has_session = has_session,
                                      .is_unwanted = !edit->is_resumed && edit->call->is_unkept,
                                      .keeping = is_waiting ? KEEPS_NOT_YET : edit->is_resumed ? KEEPS : KEEPS_SOON,
-                                     .error = session->error,
+                                     .cause = session->cause,
                                      .is_filled = edit->is_resumed};
     if (edit->unkept && !edit->facts.is_unwanted) edit->facts.told = edit->unkept_notice;
 }
@@ -327,22 +331,39 @@ static void begin_facts(struct edit *edit) {
 static void begin_saves(struct edit *edit) {
     if (!saver_open(&edit->saver, &edit->file)) tell_no_memory();
     edit->saver.is_itself = edit->is_itself;
+    edit->saver.lost_mode = edit->lost_mode;
     if (session_is_none(&edit->session)) return;
-    edit->saver.lock = edit->session.lock;
+    edit->saver.lock = edit->session.folder;
+    edit->saver.boot = this_process()->boot;
     if (edit->is_in_place) edit->saver.backup_folder = edit->session.folder;
+}
+
+/* The hint for the terminal, unless a start has shown it: a file in the folder of sessions tells that. */
+static const char *new_hint(const struct sessions *sessions) {
+    const char *name, *hint = terminal_hint(&name);
+    if (!hint || sessions->state != FOLDER_READY) return NULL;
+    int file = openat(sessions->folder, text_of("hint-%s", name), O_WRONLY | O_CREAT | O_EXCL | O_NOFOLLOW | O_CLOEXEC, 0600);
+    if (file < 0) return NULL;
+    close(file);
+    return hint;
+}
+
+/* The notice that the program shows first; NOTICE_NONE where there is none. */
+static enum notice first_notice(const struct edit *edit) {
+    if (edit->unkept && !edit->call->is_unkept) return edit->unkept_notice;
+    if (edit->aside_of) return NOTICE_RECOVERED_ASIDE;
+    if (edit->is_resumed) return NOTICE_RECOVERED;
+    return edit->is_in_place || edit->is_itself ? NOTICE_IN_PLACE : NOTICE_NONE;
 }
 
 int run_session(struct edit *edit) {
     struct run *program = &edit->run;
     struct words words = {.count = 0};
-    struct first_facts first = {.unkept = edit->unkept ? edit->unkept_notice : NOTICE_NONE, .is_unwanted = edit->call->is_unkept,
-                                .is_aside = edit->aside_of != NULL, .is_resumed = edit->is_resumed,
-                                .is_in_place = edit->is_in_place || edit->is_itself};
-    *program = (struct run){.program = edit->programs->editor, .held = {edit->session.folder, edit->session.lock},
+    *program = (struct run){.program = edit->programs->editor, .held = {edit->session.folder, -1},
                             .saver = &edit->saver, .whose = edit, .on_opened = on_opened,
                             .on_journal = on_journal, .on_second = on_second, .on_saved = on_saved,
                             .has_mouse = !edit->call->has_no_mouse, .has_clipboard = !edit->call->has_no_clipboard};
-    make_words(edit, &words);
+    make_edit_words(edit, &words);
     program->words = words.words;
     make_titles(edit);
     begin_facts(edit);
@@ -352,13 +373,13 @@ int run_session(struct edit *edit) {
         program->rows = edit->begin.rows;
         program->columns = edit->begin.cols;
     }
-    /* FILE is gone, so a save creates it, with no more permissions than it had */
-    if (edit->lost_mode >= 0) umask(umask(0) | (program->mask = mask_for((unsigned)edit->lost_mode)));
-    enum notice notice = first_notice(&first);
+    enum notice notice = first_notice(edit);
     if (notice != NOTICE_NONE) give_notice(notice);
+    else program->hint = new_hint(&edit->sessions);
+    if (!session_is_none(&edit->session)) program->last_line = text_of("bidi-edit was killed: bidi-edit --recover %s restores unsaved text\n", shown(edit->file.typed));
     enum run_end end = run_program(program);
     is_telling_limited = true;
-    if (end == RUN_ENDED) return end_session(edit);
+    if (end == RUN_ENDED) return keeper_end(edit);
     warn("the editor could not be started: %s", program->cause);
     if (!edit->is_resumed && !session_is_none(&edit->session)) session_remove(&edit->session);
     return STATUS_FAULT;

@@ -14,8 +14,10 @@
 #include "session.h"
 #include "words.h"
 
-/* What a step of a start returns if the start goes on. Any other value is the exit status, and the step has reported the cause. */
-enum { GO_ON = -1 };
+/* What a step of a start returns: that the start goes on (GO_ON); that a session is recovered, and `edit` has it, with FILE or a new file
+ * beside FILE (TAKEN); that the user was asked, and FILE is opened (ASKED); or that another start was faster (AGAIN). Any other value is the
+ * exit status, and the step has reported the cause. */
+enum { GO_ON = -1, TAKEN = -2, ASKED = -3, AGAIN = -4 };
 
 struct edit {
     const struct programs *programs;
@@ -37,7 +39,8 @@ struct edit {
      * overwrite FILE, and the session has the whole text meanwhile. is_itself: they overwrite FILE without a session, and a file
      * beside FILE has the whole text meanwhile. */
     bool is_resumed, is_joined, is_in_place, is_itself;
-    /* Why unsaved text is not kept, and its notice; NULL while it is kept. */
+    /* Why unsaved text is not kept, and its notice; NULL while it is kept. is_in_memory: FILE is, and so its text may get on no disk. */
+    bool is_in_memory;
     const char *unkept;
     enum notice unkept_notice;
     /* FILE's name, if a recovered text is saved as a new file beside FILE, which `file` then is; else NULL. */
@@ -46,15 +49,14 @@ struct edit {
     const char *moved;
     /* FILE's permissions as the recovered session recorded them, if FILE is gone; else -1. */
     int lost_mode;
-    /* Without a session: whether all line ends of FILE were CR LF when it was opened. */
-    bool had_all_crlf;
 
     struct saver saver;
     struct run run;
-    /* While the program runs: what is known about the keeping of unsaved text, the notice about it that was shown last, the titles,
-     * and whether a save has succeeded. */
+    /* While the program runs: what is known about the keeping of unsaved text; whether keys were typed since a notice about it was shown, and
+     * how many seconds ago that was; the titles; and whether a save has succeeded. */
     struct now_facts facts;
-    struct notice_facts notice;
+    bool is_typed_since;
+    unsigned seconds_since;
     const char *titles[3];
     bool was_saved;
 };
@@ -63,7 +65,7 @@ struct edit {
 
 /* Writes down what a replay depends on (versions_look in session.h). Returns NULL; or the program or table that cannot be examined,
  * with errno set. */
-const char *find_versions(const struct edit *edit, char words[MOST_WORDS]);
+const char *find_versions(const struct programs *programs, const struct tables *tables, char words[MOST_WORDS]);
 
 /* Opens and judges FILE, puts its text back after saves that were cut off, and refuses what cannot be edited, unless it is forced.
  * `typed` is FILE's name. */
@@ -97,15 +99,11 @@ int run_session(struct edit *edit);
 
 /* ---- recover.c */
 
-/* What became of FILE's earlier sessions before FILE is opened. NONE: there is none. ASKED: the user was asked, and opens FILE. TAKEN: one
- * is recovered, and `edit` has it, with FILE or a new file beside FILE. END: the start ends. */
-enum met { MET_NONE, MET_ASKED, MET_TAKEN, MET_END };
+/* Asks about FILE's earlier sessions until it is clear which one is recovered, if any. */
+int meet_sessions(struct edit *edit);
 
-/* Asks about them until it is clear which one is recovered, if any. Sets `status` with MET_END. */
-enum met meet_sessions(struct edit *edit, int *status);
-
-/* Recovers FILE's session without asking which. Returns GO_ON, and whether one was taken. */
-int recover_session(struct edit *edit, bool *is_taken);
+/* Recovers FILE's session without asking which. */
+int recover_session(struct edit *edit);
 
 /* Stores the text of FILE's session as the new file `edit->call->other`. Returns the exit status. */
 int store_session(struct edit *edit);
@@ -120,10 +118,26 @@ enum replayed { REPLAY_SAME, REPLAY_KNOWN, REPLAY_FOREIGN, REPLAY_UNREADABLE, RE
 enum replayed replay(struct edit *edit, const struct session *session, int *text, int64_t limit);
 
 /* The same without a replay, for a session that left its text at its end. */
-enum replayed compare_text(const struct edit *edit, const struct session *session);
+enum replayed compare_text(const struct file *file, const struct session *session);
 
 /* Ends the session after the program's end, and reports what is kept and what is lost. Returns the exit status. */
 int end_session(struct edit *edit);
+
+/* ---- keeper.c: the child that looks after the session and ends it, so that no disk holds up the host */
+
+/* Starts it, once the program has opened the text. It has all that `edit` has, and the host may close its own files. */
+bool keeper_start(struct edit *edit);
+
+/* Tells it that a save has succeeded, and whether the program can write its journal. */
+void keeper_note_save(void);
+void keeper_note_journal(bool is_kept);
+
+/* Takes in what it has reported of the session. */
+void keeper_hear(struct now_facts *facts);
+
+/* Has it end the session, and waits for that: for ever without a signal, but then the user is told what is waited for. Returns the exit
+ * status. */
+int keeper_end(struct edit *edit);
 
 /* ---- ask.c */
 

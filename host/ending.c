@@ -2,7 +2,6 @@
  * promises. */
 #include <errno.h>
 #include <fcntl.h>
-#include <poll.h>
 #include <stdint.h>
 #include <stdio.h>
 #include <stdlib.h>
@@ -12,7 +11,6 @@
 #include <unistd.h>
 
 #include "edit.h"
-#include "parts.h"
 #include "say.h"
 #include "signals.h"
 #include "util.h"
@@ -33,22 +31,30 @@ static enum replayed replayed_of(const struct said *said, int status) {
     return REPLAY_FAILED;
 }
 
+/* Whether FILE has the text that it had when a session with an unsaved text began. */
+static bool has_known_text(const struct file *file, const struct session *session) {
+    struct sum found;
+    if (!session->about.has_known) return false;
+    sum_begin(&found);
+    return (file->text < 0 || sum_file(file->text, &found)) && is_same_sum(&found, &session->about.known);
+}
+
 enum replayed replay(struct edit *edit, const struct session *session, int *text, int64_t limit) {
     struct run run = {0};
     struct words words = {.count = 0};
-    struct begin begin;
+    const struct begin *begin = &session->about.begin;
     *text = -1;
-    if (session->text < 0 || session->journal < 0 || !session_begin_words(session, &begin)) return REPLAY_UNREADABLE;
+    if (session->text < 0 || session->journal < 0 || !session->about.has_begin || !session->about.has_text) return REPLAY_UNREADABLE;
     int made = memfd_create("bidi-edit", MFD_CLOEXEC);
     if (made < 0) return REPLAY_FAILED;
     add_word(&words, edit->programs->editor);
-    add_option(&words, "--rows", text_of("%u", begin.rows));
-    add_option(&words, "--cols", text_of("%u", begin.cols));
-    add_option(&words, "--direction", begin.direction);
-    if (begin.line > 0) add_option(&words, "--line", text_of("%u", begin.line));
+    add_option(&words, "--rows", text_of("%u", begin->rows));
+    add_option(&words, "--cols", text_of("%u", begin->cols));
+    add_option(&words, "--direction", begin->direction);
+    if (begin->line > 0) add_option(&words, "--line", text_of("%u", begin->line));
     /* joined letters change no text and no place */
     add_tables(&words, &edit->tables, false);
-    if (session_has(session, PART_UNSAVED)) add_word(&words, "--unsaved");
+    if (session_has_mark(session, MARK_UNSAVED)) add_word(&words, "--unsaved");
     add_option(&words, "--text", handed_path(&run, session->text));
     add_word(&words, "--frames");
     add_option(&words, "--replay", handed_path(&run, session->journal));
@@ -60,33 +66,33 @@ enum replayed replay(struct edit *edit, const struct session *session, int *text
     enum replayed replayed = replayed_of(&run.said, status);
     if (replayed == REPLAY_UNREADABLE || replayed == REPLAY_FAILED) close(made);
     else *text = made;
-    return replayed;
+    return replayed == REPLAY_FOREIGN && has_known_text(&edit->file, session) ? REPLAY_KNOWN : replayed;
 }
 
-/* Whether FILE has exactly the text of a session's part. */
-static bool is_in_part(const struct edit *edit, const struct session *session, enum part part) {
-    int file = session_open(session, part);
-    bool is_same = file >= 0 && judge_file(file, edit->file.text) == FILE_WHOLE;
-    if (file >= 0) close(file);
+/* Whether FILE has exactly the text of a file of the session. */
+static bool is_in_part(const struct file *file, const struct session *session, const char *name) {
+    int part = session_open(session, name);
+    bool is_same = part >= 0 && judge_file(part, file->text) == FILE_WHOLE;
+    close_one(&part);
     return is_same;
 }
 
-enum replayed compare_text(const struct edit *edit, const struct session *session) {
-    if (!edit->file.stamp.is_there) return REPLAY_KNOWN;
-    if (is_in_part(edit, session, PART_SNAPSHOT)) return REPLAY_SAME;
-    bool is_known = is_in_part(edit, session, PART_TEXT) || is_in_part(edit, session, PART_SAVE);
+enum replayed compare_text(const struct file *file, const struct session *session) {
+    if (!file->stamp.is_there) return REPLAY_KNOWN;
+    if (is_in_part(file, session, SNAPSHOT_NAME)) return REPLAY_SAME;
+    bool is_known = is_in_part(file, session, TEXT_NAME) || is_in_part(file, session, SAVED_NAME) || has_known_text(file, session);
     return is_known ? REPLAY_KNOWN : REPLAY_FOREIGN;
 }
 
 /* ---- what is told of FILE */
 
-/* Milliseconds. COPY_MS: to finish copying FILE's text, unless a signal came. WRITE_MS: to write what the session still lacks after that.
- * REPLAY_MS: for a replay. The latter two are shorter after a signal. */
-enum { COPY_MS = 30000, WRITE_MS = 5000, WRITE_BY_SIGNAL_MS = 700, REPLAY_MS = 2000, REPLAY_BY_SIGNAL_MS = 1000 };
+/* The milliseconds that a replay may take, and the bytes of the largest journal that is replayed at the end; less after a signal. 20,000 keys
+ * take a second or two, and a large paste in one line takes longer. */
+enum { REPLAY_MS = 2000, REPLAY_BY_SIGNAL_MS = 1000, LONGEST = 200000, LONGEST_BY_SIGNAL = 20000 };
 
 /* Whether the last fault that the program reported is of this kind; gives its value. */
-static bool is_fault(const struct edit *edit, const char *kind, const char **value) {
-    const char *fault = edit->run.said.fault;
+static bool is_fault(const struct said *said, const char *kind, const char **value) {
+    const char *fault = said->fault;
     size_t length = strlen(kind);
     if (strncmp(fault, kind, length) != 0 || (fault[length] != 0 && fault[length] != ' ')) return false;
     *value = fault[length] ? fault + length + 1 : "";
@@ -94,24 +100,24 @@ static bool is_fault(const struct edit *edit, const char *kind, const char **val
 }
 
 /* The refusal of FILE, or of a table, with which the program ended; NULL if it opened the text. */
-static const char *refusal_of(const struct edit *edit, bool *is_of_file) {
+static const char *refusal_of(const struct file *file, const struct said *said, bool *is_of_file) {
     const char *value;
     *is_of_file = true;
-    if (is_fault(edit, "not-utf8", &value)) {
+    if (is_fault(said, "not-utf8", &value)) {
         unsigned long long text_line = strtoull(value, NULL, 10);
-        return not_utf8_message(&edit->file, text_line > 0 ? text_line : 1);
+        return file_message(file, check_encoding(file), text_line > 0 ? text_line : 1);
     }
-    if (is_fault(edit, "too-long", &value)) return too_long_message(&edit->file);
-    if (is_fault(edit, "unreadable", &value)) return unreadable_message(&edit->file);
+    if (is_fault(said, "too-long", &value)) return file_message(file, CAUSE_TOO_LONG, 0);
+    if (is_fault(said, "unreadable", &value)) return file_message(file, CAUSE_UNREADABLE, 0);
     *is_of_file = false;
-    return is_fault(edit, "tables", &value) ? value : NULL;
+    return is_fault(said, "tables", &value) ? value : NULL;
 }
 
 /* The fault with which the program ended; NULL if it reported none. */
-static const char *fault_of(const struct edit *edit) {
+static const char *fault_of(const struct said *said) {
     const char *value;
-    if (is_fault(edit, "memory", &value)) return "out of memory";
-    switch (edit->run.said.end) {
+    if (is_fault(said, "memory", &value)) return "out of memory";
+    switch (said->end) {
     case END_UNSAVED: return "input ended before saving";
     case END_OUTPUT: return "output failed";
     case END_INPUT: return "input failed";
@@ -121,66 +127,31 @@ static const char *fault_of(const struct edit *edit) {
 }
 
 /* Reports why the program ended: in its name, or in the host's if FILE is refused. Returns whether FILE or a table was refused. */
-static bool tell_fault_of(const struct edit *edit) {
+static bool tell_fault_of(const struct file *file, const struct said *said) {
     bool is_of_file;
-    const char *refusal = refusal_of(edit, &is_of_file), *fault = refusal ? refusal : fault_of(edit);
+    const char *refusal = refusal_of(file, said, &is_of_file), *fault = refusal ? refusal : fault_of(said);
     if (refusal && is_of_file) warn("%s", refusal);
     else if (fault) put_text(STDERR_FILENO, text_of("bidi_edit: %s\n", fault));
     return refusal != NULL;
 }
 
 /* Opens FILE as it is now, if it is a plain file. */
-static int open_now(const struct edit *edit, struct stat *look) {
-    if (edit->file.is_lost) return -1;
-    int file = openat(edit->file.folder, edit->file.name, O_RDONLY | O_NONBLOCK | O_NOFOLLOW | O_CLOEXEC);
-    if (file >= 0 && (fstat(file, look) != 0 || !S_ISREG(look->st_mode))) {
-        close(file);
-        return -1;
-    }
-    return file;
-}
-
-/* If FILE was gone and a recovery saved it, gives it the permissions that it had, unless it has other names. */
-static void give_mode(const struct edit *edit) {
-    struct stat look;
-    if (edit->lost_mode < 0 || !edit->was_saved) return;
-    int file = open_now(edit, &look);
-    if (file < 0) return;
-    /* if this fails, only the user can read and write the file */
-    if (look.st_nlink == 1 && fchmod(file, (mode_t)edit->lost_mode & PERMISSIONS) != 0) errno = 0;
-    close(file);
+static int open_now(const struct file *file, struct stat *look) {
+    int text = file->is_lost ? -1 : openat(file->folder, file->name, O_RDONLY | O_NONBLOCK | O_NOFOLLOW | O_CLOEXEC);
+    if (text >= 0 && (fstat(text, look) != 0 || !S_ISREG(look->st_mode))) close_one(&text);
+    return text;
 }
 
 /* Whether FILE is there now. */
-static bool is_there_now(const struct edit *edit) {
+static bool is_there_now(const struct file *file) {
     struct file_stamp stamp;
-    return stamp_again(&edit->file, &stamp) && stamp.is_there;
+    return stamp_again(file, &stamp) && stamp.is_there;
 }
 
 /* Says where the recovered text is, if it was saved as another file. */
 static void tell_aside(const struct edit *edit) {
-    if (edit->aside_of && is_there_now(edit))
+    if (edit->aside_of && is_there_now(&edit->file))
         warn("%s was changed on disk, so the recovered text is in %s", shown(edit->aside_of), shown(edit->file.typed));
-}
-
-/* Whether FILE's text, as it was opened, had CR LF at each line's end. */
-static bool had_all_crlf(const struct edit *edit) {
-    const struct session *session = &edit->session;
-    if (session_is_none(session)) return edit->had_all_crlf;
-    int text = session->text >= 0 ? session->text : session->source;
-    return text >= 0 && has_all_crlf(text);
-}
-
-/* Warns if all of FILE's line ends were CR LF, and a save has left a mixture. */
-static void tell_line_ends(const struct edit *edit) {
-    struct stat look;
-    struct line_ends ends;
-    int file = edit->was_saved && had_all_crlf(edit) ? open_now(edit, &look) : -1;
-    const char *file_name = shown(edit->file.typed);
-    if (file < 0) return;
-    if (read_line_ends(file, &ends) && ends.has_lines && !ends_are_all_crlf(&ends))
-        warn("%s now has mixed line ends, CR LF and LF: perl -pi -e 's/\\r?\\n/\\r\\n/' %s makes all of them CR LF", file_name, file_name);
-    close(file);
 }
 
 /* Repairs FILE after a save into it that was cut off. Returns whether FILE is still torn. */
@@ -193,15 +164,26 @@ static bool mend_now(struct edit *edit) {
         tell_mended(edit, &mending, warn);
     }
     if (!edit->is_in_place) return false;
-    if (session_mend(&edit->session, &edit->sessions, &edit->target, &mending) != 0) return session_has(&edit->session, PART_BACKUP);
+    if (session_mend(&edit->session, &edit->sessions, &edit->target, &mending)) return session_has(&edit->session, BACKUP_NAME);
     return tell_mended(edit, &mending, warn);
 }
 
 /* ---- the session */
 
+/* How the program left the text. */
+static enum left_how left_how(enum end_word end, bool is_refused) {
+    if (is_refused) return LEFT_REFUSED;
+    switch (end) {
+    case END_SAVED: return LEFT_SAVED;
+    case END_DROPPED: return LEFT_DROPPED;
+    case END_UNSAVED: return LEFT_UNSAVED;
+    default: return LEFT_UNKNOWN;
+    }
+}
+
 /* Says that unsaved text is lost, if there may be any. */
 static void tell_lost(enum left_how how, const char *cause) {
-    if (may_be_unsaved(how)) warn("any unsaved text is lost, since %s", cause);
+    if (how == LEFT_UNSAVED || how == LEFT_UNKNOWN) warn("any unsaved text is lost, since %s", cause);
 }
 
 /* Tells that the session's folder is gone, so that nothing unsaved can be recovered. */
@@ -215,13 +197,14 @@ static void tell_gone(const struct edit *edit, enum left_how how) {
 static const char *cause_of_lost(const struct edit *edit) {
     if (edit->unkept) return edit->unkept;
     if (edit->session.is_changed) return text_of("%s was changed before it could be copied", shown(edit->file.typed));
-    return text_of("nothing can be written in %s", shown(edit->session.path));
+    if (edit->session.cause) return text_of("nothing can be written in %s", shown(edit->session.path));
+    return text_of("something has removed files from %s", shown(edit->session.path));
 }
 
 /* Whether the tables and programs are those with which the session began. */
 static bool has_same_versions(const struct edit *edit) {
     char versions[MOST_WORDS];
-    return !find_versions(edit, versions) && strcmp(versions, edit->versions) == 0;
+    return !find_versions(edit->programs, &edit->tables, versions) && strcmp(versions, edit->versions) == 0;
 }
 
 /* Puts an open text into the session. If this fails, another version of the editor can only replay the keys. */
@@ -231,7 +214,7 @@ static void put_snapshot(struct session *session, int text) {
     size_t length = (size_t)look.st_size;
     void *bytes = length > 0 ? mmap(NULL, length, PROT_READ, MAP_PRIVATE, text, 0) : NULL;
     if (bytes == MAP_FAILED) return;
-    session_put(session, PART_SNAPSHOT, bytes, length);
+    session_put(session, SNAPSHOT_NAME, bytes, length);
     if (bytes) munmap(bytes, length);
 }
 
@@ -241,11 +224,12 @@ static bool leave_text(struct edit *edit) {
     struct session *session = &edit->session;
     struct stat look;
     int text;
-    if (!is_replayed_at_end(session_journal_size(session), end_signal != 0) || !has_same_versions(edit)) return false;
+    if (session_journal_size(session) > (end_signal ? LONGEST_BY_SIGNAL : LONGEST) || !has_same_versions(edit)) return false;
     /* FILE as it is now */
     if (edit->file.text >= 0) close(edit->file.text);
-    edit->file.text = open_now(edit, &look);
-    edit->file.stamp.is_there = is_there_now(edit);
+    edit->file.text = open_now(&edit->file, &look);
+    leave_out_mark(&edit->file.text);
+    edit->file.stamp.is_there = is_there_now(&edit->file);
     enum replayed found = replay(edit, session, &text, within(end_signal ? REPLAY_BY_SIGNAL_MS : REPLAY_MS));
     if (text < 0) return false;
     put_snapshot(session, text);
@@ -266,20 +250,9 @@ static void note_moved(struct edit *edit) {
     if (is_folder_gone(file) || !path_of(file->folder, folder)) return;
     bool has_moved = strcmp(folder, file->folder_path) != 0;
     if (has_moved) edit->moved = text_of("%s/%s", before_slash(folder), file->name);
-    if (has_moved && edit->aside_of) session_put(&edit->session, PART_BESIDE, edit->moved, strlen(edit->moved));
+    if (has_moved && edit->aside_of) put_path(edit->session.about.beside, "%s", edit->moved);
     target_look(&edit->target, has_moved ? edit->moved : file->path, file->folder, file->name);
     session_note_file(&edit->session, &edit->target);
-}
-
-/* Waits for the child that copies, as long as no signal asks for the end, and then settles the session. Returns whether it can be
- * recovered. */
-static bool settle(struct session *session) {
-    int64_t end = now() + COPY_MS;
-    struct pollfd copied = {.fd = session->report, .events = POLLIN};
-    while (session->report >= 0 && !end_signal && now() < end) {
-        if (wait_for(&copied, 1, end) > 0) break;
-    }
-    return session_settle(session, (int)within(end_signal ? WRITE_BY_SIGNAL_MS : WRITE_MS));
 }
 
 /* Collects what decides the session's fate. On the way it leaves the replayed text in the session. */
@@ -288,11 +261,15 @@ static struct left left_of(struct edit *edit, enum left_how how) {
     struct left left = {.how = how, .is_there = session_is_there(session)};
     if (!left.is_there) return left;
     left.is_torn = mend_now(edit);
-    left.has_keys = session_has_keys(session) || session_has(session, PART_UNSAVED);
+    left.has_keys = session_has_keys(session) || session_has_mark(session, MARK_UNSAVED);
     bool is_wanted = left.is_torn || (left.has_keys && how != LEFT_SAVED);
     if (is_wanted) note_moved(edit);
-    left.is_filled = is_wanted && settle(session);
-    left.is_secret = session_has(session, PART_SECRET);
+    if (edit->facts.is_journal_lost && is_wanted) {
+        session->about.marks |= MARK_CUT;
+        session->is_about_due = true;
+    }
+    left.is_filled = is_wanted && session_settle(session, end_signal != 0);
+    left.is_secret = session_has_mark(session, MARK_SECRET);
     left.is_same = left.is_filled && left.has_keys && leave_text(edit);
     return left;
 }
@@ -300,7 +277,7 @@ static struct left left_of(struct edit *edit, enum left_how how) {
 /* Whether this name of FILE leads to this path. Opens it anew, since folders may have changed during the session. */
 static bool leads_to_path(const char *typed, const char *path) {
     static struct file again;
-    if (open_lost_file(&again, typed)) return false;
+    if (open_lost_file(&again, typed) != CAUSE_NONE) return false;
     bool is_same = strcmp(again.path, path) == 0;
     close_file(&again);
     return is_same;
@@ -311,7 +288,7 @@ static bool leads_to_path(const char *typed, const char *path) {
 static void tell_kept(const struct edit *edit, const char *what, const char *behind) {
     const char *cut = edit->facts.is_journal_lost ? " up to where its journal could not be written" : "";
     /* what is not saved beside FILE is found under FILE's name */
-    const char *typed = edit->aside_of && !is_there_now(edit) ? edit->aside_of : edit->file.typed;
+    const char *typed = edit->aside_of && !is_there_now(&edit->file) ? edit->aside_of : edit->file.typed;
     const char *path = edit->moved ? edit->moved : edit->file.path;
     bool is_found = !is_folder_gone(&edit->file) && !edit->moved && (typed == edit->aside_of || leads_to_path(typed, path));
     const char *where = is_found ? "" : text_of(" in %s", shown(edit->session.path));
@@ -320,24 +297,17 @@ static void tell_kept(const struct edit *edit, const char *what, const char *beh
 
 /* Keeps a session whose changes were dropped, as the only one of its kind, so that a hasty Quit can be undone. */
 static void drop_changes(struct edit *edit) {
-    if (edit->facts.is_journal_lost) session_note_cut(&edit->session);
     sessions_forget_dropped(&edit->sessions, &edit->session);
     /* if this fails, the next start asks about the session */
-    session_put_empty(&edit->session, PART_DROPPED);
+    session_mark(&edit->session, MARK_DROPPED);
     tell_kept(edit, "the dropped changes can be recovered", "");
 }
 
 /* Removes a session whose changes were dropped, as it has text that only root could read. */
 static void wipe_changes(struct edit *edit) {
-    int error = session_remove(&edit->session);
-    if (error == 0) warn("the dropped changes are not kept, since only root can read %s", shown(edit->file.typed));
-    else warn("the dropped changes cannot be deleted from %s%s", shown(edit->session.path), fault_words(error));
-}
-
-/* Leaves the session to be recovered, and says so. */
-static void leave_session(struct edit *edit) {
-    if (edit->facts.is_journal_lost) session_note_cut(&edit->session);
-    tell_kept(edit, "unsaved text is kept", " restores it");
+    enum cause cause = session_remove(&edit->session);
+    if (!cause) warn("the dropped changes are not kept, since only root can read %s", shown(edit->file.typed));
+    else warn("the dropped changes cannot be deleted from %s%s", shown(edit->session.path), fault_words(cause));
 }
 
 /* Ends a session that was kept, by its fate, and tells what is lost. FATE_REMOVED is silent unless keys were lost. */
@@ -350,13 +320,10 @@ static void end_kept(struct edit *edit, enum left_how how) {
         if (!left.has_keys && edit->facts.is_journal_lost) tell_lost(how, "the journal could not be written");
         session_remove(session);
         break;
-    case FATE_LOST:
-        tell_lost(how, cause_of_lost(edit));
-        session_remove(session);
-        break;
+    case FATE_LOST: tell_lost(how, cause_of_lost(edit)); break;
     case FATE_DROPPED: drop_changes(edit); break;
     case FATE_WIPED: wipe_changes(edit); break;
-    case FATE_KEPT: leave_session(edit); break;
+    case FATE_KEPT: tell_kept(edit, "unsaved text is kept", " restores it"); break;
     }
 }
 
@@ -369,11 +336,9 @@ static void tell_signal(int status) {
 }
 
 int end_session(struct edit *edit) {
-    bool is_refused = tell_fault_of(edit) || !edit->run.said.is_opened;
+    bool is_refused = tell_fault_of(&edit->file, &edit->run.said) || !edit->run.said.is_opened;
     enum left_how how = left_how(edit->run.said.end, is_refused);
-    give_mode(edit);
     tell_aside(edit);
-    tell_line_ends(edit);
     if (!session_is_none(&edit->session)) {
         end_kept(edit, how);
     } else {

@@ -1,22 +1,121 @@
-/* FILE: its opening, its paths, the messages that refuse it, and the names of the files that saves make beside it. file.h says what each
- * call promises. */
+/* FILE: what the system says of it, its opening, its paths, and the files that saves left beside it. file.h says what each call
+ * promises. */
 #include "file.h"
 
 #include <errno.h>
 #include <fcntl.h>
+#include <linux/magic.h>
 #include <stdio.h>
 #include <string.h>
+#include <sys/mman.h>
+#include <sys/statvfs.h>
+#include <sys/vfs.h>
+#include <sys/xattr.h>
 #include <unistd.h>
 
 #include "say.h"
 #include "util.h"
 
-/* MOST_LINKS: as in Linux. OPEN_TRIES: how often to open a FILE that other programs keep replacing. FRONT: bytes to look at for a byte
- * order mark or a binary header. MOST_NAMES: how many names in a folder are searched for drafts; at most MOST_DRAFTS are reported.
- * END_BYTES: the length of DRAFT_END. */
-enum { MOST_LINKS = 40, OPEN_TRIES = 10, FRONT = 512, MOST_NAMES = 20000, MOST_DRAFTS = 10, END_BYTES = sizeof DRAFT_END - 1 };
+/* Older headers lack this. */
+#ifndef STATX_ATTR_MOUNT_ROOT
+#define STATX_ATTR_MOUNT_ROOT 0x2000
+#endif
 
-/* ---- file stamps */
+/* MOST_LINKS: as in Linux. FRONT: bytes to look at for a byte order mark or a binary header. MOST_NAMES: how many names in a folder are searched for drafts; at most MOST_DRAFTS are reported. */
+enum { MOST_LINKS = 40, FRONT = 512, MOST_NAMES = 20000, MOST_DRAFTS = 10 };
+
+/* Bytes. MOST: the kernel's limit for an attribute, and for the names of a file's attributes. A POSIX access list is a header and entries;
+ * three entries, for owner, group and others, say no more than a mode. */
+enum { MOST = 65536, POSIX_HEADER = 4, POSIX_MODE = 28 };
+
+/* ---- facts */
+
+static bool is_none(ssize_t length) {
+    return length < 0 && (errno == ENODATA || errno == ENOTSUP || errno == ENOSYS);
+}
+
+/* Whether a file has this attribute, with more than `least` bytes. */
+static enum answer has_attribute(int at, const char *name, ssize_t least) {
+    ssize_t length = getxattr(link_of(at).path, name, NULL, 0);
+    if (length < 0) return is_none(length) ? NO : UNKNOWN;
+    return length > least ? YES : NO;
+}
+
+/* Of a list of NFS, version 4, only its presence is asked for. */
+static enum answer has_list(int at, const char *posix, ssize_t least) {
+    enum answer own = has_attribute(at, posix, least), network = own == YES ? NO : has_attribute(at, "system.nfs4_acl", 0);
+    if (own == YES || network == YES) return YES;
+    return own == UNKNOWN || network == UNKNOWN ? UNKNOWN : NO;
+}
+
+enum answer has_access_list(int at) {
+    return has_list(at, "system.posix_acl_access", POSIX_MODE);
+}
+
+/* Whether an attribute would be lost if a new file replaced the file. The kernel makes checksums of a file's content by itself, and the
+ * user's own attributes are not kept anyway. */
+static bool is_own(int at, int folder, const char *name) {
+    static char value[MOST], other[MOST];
+    if (strcmp(name, "security.ima") == 0 || strcmp(name, "security.evm") == 0) return false;
+    if (strcmp(name, "security.selinux") != 0 && strcmp(name, "security.SMACK64") != 0)
+        return strncmp(name, "security.", 9) == 0 || strncmp(name, "trusted.", 8) == 0;
+    ssize_t length = getxattr(link_of(at).path, name, value, sizeof value);
+    ssize_t folder_length = getxattr(link_of(folder).path, name, other, sizeof other);
+    return length > 0 && (folder_length != length || memcmp(value, other, (size_t)length) != 0);
+}
+
+/* Whether a file has a label or another attribute that a new file would not get. */
+static bool has_label(int at, int folder) {
+    static char names[MOST];
+    ssize_t length = listxattr(link_of(at).path, names, sizeof names);
+    bool is_found = false;
+    for (const char *name = names; name < names + length && !is_found; name += strlen(name) + 1) is_found = is_own(at, folder, name);
+    return is_found;
+}
+
+/* Whether it is the root of a mount. Older systems do not say; there a rename over it fails. */
+static bool is_mount(int at) {
+    struct statx look;
+    return statx(at, "", AT_EMPTY_PATH | AT_STATX_DONT_SYNC, 0, &look) == 0 && (look.stx_attributes & look.stx_attributes_mask & STATX_ATTR_MOUNT_ROOT);
+}
+
+/* Whether the user may write it. If the system does not say, the later call will. */
+static bool may_write(int at) {
+    return faccessat(AT_FDCWD, link_of(at).path, W_OK, AT_EACCESS) == 0 || (errno != EACCES && errno != EPERM && errno != EROFS);
+}
+
+bool is_in_memory(int at) {
+    struct statfs look;
+    return fstatfs(at, &look) == 0 && (look.f_type == TMPFS_MAGIC || look.f_type == RAMFS_MAGIC);
+}
+
+/* The free space in bytes. Root may use the reserved space too. */
+uint64_t free_room(int at) {
+    struct statvfs look;
+    uint64_t room = 0;
+    if (fstatvfs(at, &look) != 0) return 0;
+    uint64_t blocks = geteuid() == 0 ? look.f_bfree : look.f_bavail;
+    return __builtin_mul_overflow(blocks, (uint64_t)look.f_frsize, &room) ? UINT64_MAX : room;
+}
+
+/* Whether the sticky bit of the folder keeps the user from replacing the file. */
+static bool is_held_by_folder(int at, int folder) {
+    struct stat own, above;
+    uid_t user = geteuid();
+    if (user == 0 || fstat(at, &own) != 0 || fstat(folder, &above) != 0 || !(above.st_mode & S_ISVTX)) return false;
+    return user != own.st_uid && user != above.st_uid;
+}
+
+void find_facts(int at, int folder, struct facts *facts) {
+    *facts = (struct facts){.writable = may_write(at), .access_list = has_access_list(at), .has_label = has_label(at, folder),
+                            .is_mount = is_mount(at), .is_held_by_folder = is_held_by_folder(at, folder)};
+}
+
+void find_folder_facts(int folder, struct facts *facts) {
+    *facts = (struct facts){.writable = may_write(folder), .gives_access_lists = has_list(folder, "system.posix_acl_default", POSIX_HEADER) == YES};
+}
+
+/* ---- stamps and paths */
 
 bool stamp_at(int folder, const char *name, struct file_stamp *stamp) {
     memset(stamp, 0, sizeof *stamp);
@@ -63,195 +162,162 @@ bool path_of(int at, char path[PATH_MAX]) {
     return true;
 }
 
-static const char leads_nowhere[] = "is a broken link: ls -l shows where it points";
-
-/* ---- the walk to FILE */
-
 /* Cuts a path into its folder, `.` for a name alone, and its last name. Returns false where it is too long. */
 static bool split(const char *path, char folder[PATH_MAX], char name[PATH_MAX]) {
     const char *slash = strrchr(path, '/');
-    size_t length = slash ? (size_t)(slash - path) : 0;
-    if (strlen(path) >= PATH_MAX) return false;
-    put_path(name, "%s", slash ? slash + 1 : path);
-    put_path(folder, "%s", slash ? "/" : ".");
-    if (length == 0) return true;
-    memcpy(folder, path, length);
-    folder[length] = 0;
-    return true;
+    if (!put_path(name, "%s", slash ? slash + 1 : path) || strlen(path) >= PATH_MAX) return false;
+    return put_path(folder, "%.*s", slash && slash > path ? (int)(slash - path) : 1, slash ? path : ".");
 }
 
-/* Whether a path names a descriptor that a caller handed over, as a shell does for `<(..)`. */
-static bool is_handed_over(const char *path) {
-    if (strncmp(path, "/dev/std", 8) == 0 || strncmp(path, "/dev/fd/", 8) == 0) return true;
-    return strncmp(path, "/proc/", 6) == 0 && strstr(path + 6, "/fd/");
-}
+/* ---- the walk to FILE */
 
-/* Why a path that leads to an open descriptor is refused. */
-static const char *handed_over_cause(const char *path) {
+/* Whether a path names a descriptor that a caller handed over, as a shell does for `<(..)`; CAUSE_NONE if not. */
+static enum cause check_handed_over(const char *path) {
     const char *name = strrchr(path, '/');
-    bool is_input = name && (strcmp(name, "/stdin") == 0 || strcmp(name, "/0") == 0);
-    return is_input ? "is standard input, not a file: write the input to a file, and edit that"
-                    : "is a descriptor that the caller opened, not a file: write its content to a file, and edit that";
+    bool is_proc = strncmp(path, "/proc/", 6) == 0 && strstr(path + 6, "/fd/");
+    if (!name || (!is_proc && strncmp(path, "/dev/std", 8) != 0 && strncmp(path, "/dev/fd/", 8) != 0)) return CAUSE_NONE;
+    return strcmp(name, "/stdin") == 0 || strcmp(name, "/0") == 0 ? CAUSE_STANDARD_INPUT : CAUSE_DESCRIPTOR;
 }
 
-/* The message for a folder that cannot be opened, by what stat says of it. Sets is_lost, unless there is another kind of file. */
-static const char *refuse_folder(struct file *file, const char *folder) {
+/* Why a folder cannot be opened, by what stat says of it. Sets is_lost, unless there is another kind of file. */
+static enum cause refuse_folder(struct file *file, const char *folder) {
     struct stat found;
-    const char *name = shown(folder);
-    if (stat(folder, &found) == 0) return text_of("%s is not a folder: name a file in a folder", name);
+    put_path(file->folder_name, "%s", folder);
+    if (stat(folder, &found) == 0) return CAUSE_FILE_AS_FOLDER;
     file->is_lost = true;
-    switch (errno) {
-    case EACCES: return text_of("the folder %s cannot be reached: you have no access to a folder above it", name);
-    case ENOTDIR: return text_of("the folder %s cannot exist, since its path leads through a file: name a file in a folder", name);
-    case ENAMETOOLONG: return text_of("the folder %s cannot be reached, since its path is too long: go to a folder above it, and name FILE from there", name);
-    default: return text_of("the folder %s does not exist: mkdir -p %s creates it", name, name);
-    }
+    return errno == EACCES ? CAUSE_FOLDER_UNREACHED : errno == ENOTDIR ? CAUSE_FOLDER_BELOW_FILE : errno == ENAMETOOLONG ? CAUSE_FOLDER_PATH_TOO_LONG : CAUSE_NO_FOLDER;
 }
 
-static const char *refuse(const struct file *file, const char *cause) {
-    return text_of("%s %s", shown(file->typed), cause);
-}
-
-/* Reads the path that a link points to. Returns NULL, or the message that refuses it. */
-static const char *follow_link(struct file *file, char words[PATH_MAX], bool *is_of_folder) {
+/* Reads the path that a link points to. */
+static enum cause follow_link(struct file *file, char words[PATH_MAX], bool *is_of_folder) {
     ssize_t length = readlinkat(file->itself, "", words, PATH_MAX - 1);
-    if (length <= 0) return refuse(file, leads_nowhere);
+    if (length <= 0) return CAUSE_BROKEN_LINK;
     words[length] = 0;
-    if (!is_utf8(words)) return refuse(file, "is a link to a name that is not UTF-8: rename that file with mv");
-    if (is_handed_over(words)) return refuse(file, handed_over_cause(words));
+    if (!is_utf8(words)) return CAUSE_LINK_NOT_UTF8;
     *is_of_folder = words[length - 1] == '/';
     for (; length > 1 && words[length - 1] == '/'; length--) words[length - 1] = 0;
     close_one(&file->itself);
-    return NULL;
+    file->is_linked = true;
+    return check_handed_over(words);
 }
 
 /* Opens the folder of a path, and what has the path's last name there, a link itself and not its target. */
-static const char *take_step(struct file *file, const char *path) {
+static enum cause take_step(struct file *file, const char *path) {
     char folder_part[PATH_MAX];
-    int base = file->is_linked ? file->folder : AT_FDCWD;
     if (!split(path, folder_part, file->name)) return refuse_folder(file, path);
-    int folder = open_folder(base, folder_part);
-    if (folder < 0 && file->is_linked) return refuse(file, leads_nowhere);
-    if (folder < 0) return refuse_folder(file, folder_part);
+    int folder = open_folder(file->is_linked ? file->folder : AT_FDCWD, folder_part);
+    if (folder < 0) return file->is_linked ? CAUSE_BROKEN_LINK : refuse_folder(file, folder_part);
     if (!file->is_linked) put_path(file->folder_name, "%s", folder_part);
     close_one(&file->folder);
     file->folder = folder;
-    stamp_and_open(folder, file->name, &file->stamp, &file->itself);
-    return NULL;
+    if (stamp_and_open(folder, file->name, &file->stamp, &file->itself) || (errno != EACCES && errno != ENAMETOOLONG)) return CAUSE_NONE;
+    if (errno == ENAMETOOLONG) return CAUSE_NAME_TOO_LONG;
+    if (file->is_linked) path_of(folder, file->folder_name);
+    return CAUSE_FOLDER_CLOSED;
 }
 
-/* Opens FILE's folder, and follows links from there one by one, so that what is examined is what is opened. Returns the refusal, or
- * NULL. */
-static const char *walk(struct file *file) {
+/* Opens FILE's folder, and follows links from there one by one, so that what is examined is what is opened. */
+static enum cause walk(struct file *file) {
     char path[PATH_MAX];
     bool is_of_folder = false;
-    const char *message = take_step(file, file->typed);
-    for (int links = 0; !message && file->stamp.is_there && S_ISLNK(file->stamp.found.st_mode); links++) {
-        if (links >= MOST_LINKS) return refuse(file, "is a link in a circle of links: ls -l shows where it points");
-        message = follow_link(file, path, &is_of_folder);
-        if (message) break;
-        file->is_linked = true;
-        message = take_step(file, path);
+    enum cause cause = take_step(file, file->typed);
+    for (int links = 0; cause == CAUSE_NONE && S_ISLNK(file->stamp.found.st_mode); links++) {
+        cause = links < MOST_LINKS ? follow_link(file, path, &is_of_folder) : CAUSE_CIRCLE_OF_LINKS;
+        if (cause == CAUSE_NONE) cause = take_step(file, path);
     }
-    if (message) return message;
-    if (file->stamp.is_there && S_ISDIR(file->stamp.found.st_mode)) return refuse(file, "is a folder: name a file in it");
-    return is_of_folder ? refuse(file, leads_nowhere) : NULL;
+    if (cause != CAUSE_NONE) return cause;
+    if (S_ISDIR(file->stamp.found.st_mode)) return CAUSE_FOLDER;
+    return is_of_folder ? CAUSE_BROKEN_LINK : CAUSE_NONE;
 }
 
 /* ---- the opening */
 
-/* Opens FILE for reading, if it is still the file that was found. Returns false if another file has taken its place. A lease on FILE
- * makes the opening wait, which is accepted for a plain file only. */
-static bool open_text(struct file *file) {
-    struct stat opened;
-    file->text = openat(file->folder, file->name, O_RDONLY | O_NONBLOCK | O_NOFOLLOW | O_CLOEXEC | O_NOCTTY);
-    if (file->text < 0 && errno == EAGAIN) file->text = open(link_of(file->itself).path, O_RDONLY | O_CLOEXEC | O_NOCTTY);
-    if (file->text < 0) return errno != ENOENT && errno != ELOOP && errno != ENXIO;
-    if (fstat(file->text, &opened) == 0 && is_same_file(&opened, &file->stamp.found)) return true;
-    close_one(&file->text);
-    return false;
-}
-
 /* Sets the paths for messages and sessions, by what the open folder is called now. */
 static void name_paths(struct file *file) {
     struct stat folder, there;
-    if (!path_of(file->folder, file->folder_path)) put_path(file->folder_path, "%s", file->folder_name);
+    file->is_at_path = path_of(file->folder, file->folder_path) && fstat(file->folder, &folder) == 0 && stat(file->folder_path, &there) == 0 && is_same_file(&folder, &there);
+    if (!file->folder_path[0]) put_path(file->folder_path, "%s", file->folder_name);
     if (file->is_linked) put_path(file->folder_name, "%s", file->folder_path);
     snprintf(file->path, sizeof file->path, "%s/%s", before_slash(file->folder_path), file->name);
-    file->is_at_path = fstat(file->folder, &folder) == 0 && stat(file->folder_path, &there) == 0 && is_same_file(&folder, &there);
 }
 
-static void forget_file(struct file *file, const char *typed) {
-    *file = (struct file){.typed = typed, .folder = -1, .itself = -1, .text = -1};
-}
-
-/* Opens the plain file that was found. Returns false if another file has taken its place. */
-static bool open_found(struct file *file) {
-    if (!file->stamp.is_there) return true;
-    if (!open_text(file)) return false;
-    find_id(file->itself, &file->id);
-    find_facts(file->itself, file->folder, &file->facts);
-    file->facts.readable = file->text >= 0;
-    return true;
-}
-
-/* Tries once to open FILE. `is_again`: another file took its place meanwhile, so try again. */
-static const char *try_to_open(struct file *file, bool *is_again) {
-    static const char no_plain[] = "is a device, pipe or socket, not a plain file: write its content to a file, and edit that";
+/* Finds and opens FILE; what was opened before a refusal stays open. */
+static enum cause find_and_open(struct file *file) {
     size_t length = strlen(file->typed);
-    bool is_name_of_folder = length == 0 || file->typed[length - 1] == '/', is_handed = is_handed_over(file->typed);
-    if ((is_name_of_folder || is_handed) && is_folder(file->typed)) return refuse(file, "is a folder: name a file in it");
-    if (is_name_of_folder) return refuse(file, "ends in a slash, so it names a folder: name a file");
-    if (is_handed) return refuse(file, handed_over_cause(file->typed));
-    const char *message = walk(file);
-    if (message) return message;
-    if (file->stamp.is_there && !S_ISREG(file->stamp.found.st_mode)) return refuse(file, no_plain);
+    bool is_name_of_folder = length == 0 || file->typed[length - 1] == '/';
+    enum cause cause = is_name_of_folder ? CAUSE_NAMES_FOLDER : check_handed_over(file->typed);
+    if (cause != CAUSE_NONE) return is_folder(file->typed) ? CAUSE_FOLDER : cause;
+    cause = walk(file);
+    if (cause != CAUSE_NONE) return cause;
+    if (file->stamp.is_there && !S_ISREG(file->stamp.found.st_mode)) return CAUSE_DEVICE;
     find_id(file->folder, &file->folder_id);
     find_folder_facts(file->folder, &file->folder_facts);
     name_paths(file);
-    if (!file->folder_facts.searchable)
-        return text_of("you have no access to the folder %s: if it is yours, chmod u+x gives you access", shown(file->folder_name));
-    if (!is_utf8(file->folder_path))
-        return refuse(file, "is in a folder whose name is not UTF-8: rename the folder with mv");
-    *is_again = !open_found(file);
-    return *is_again ? refuse(file, no_plain) : NULL;
+    if (!is_utf8(file->folder_path)) return CAUSE_FOLDER_NOT_UTF8;
+    if (!file->stamp.is_there) return CAUSE_NONE;
+    find_id(file->itself, &file->id);
+    find_facts(file->itself, file->folder, &file->facts);
+    /* the plain file that was found, whatever has its name by now */
+    file->text = open(link_of(file->itself).path, O_RDONLY | O_CLOEXEC | O_NOCTTY);
+    file->is_unreadable = file->text < 0;
+    file->has_mark = leave_out_mark(&file->text);
+    return CAUSE_NONE;
 }
 
-const char *open_file(struct file *file, const char *typed) {
-    const char *message = NULL;
-    bool is_again = true;
-    for (int tries = 0; is_again && tries < OPEN_TRIES; tries++) {
-        is_again = false;
-        forget_file(file, typed);
-        message = try_to_open(file, &is_again);
-        if (message) close_file(file);
-    }
-    return message;
+bool leave_out_mark(int *text) {
+    enum { LENGTH = sizeof BYTE_ORDER_MARK - 1 };
+    char front[LENGTH];
+    struct stat found;
+    if (*text < 0 || pread(*text, front, LENGTH, 0) != LENGTH || memcmp(front, BYTE_ORDER_MARK, LENGTH) != 0) return false;
+    if (fstat(*text, &found) != 0 || found.st_size > LARGEST_TEXT + LENGTH) return false;
+    int copy = memfd_create("bidi-edit", MFD_CLOEXEC);
+    bool is_copied = copy >= 0 && copy_file(*text, LENGTH, copy) == 0;
+    close_one(is_copied ? text : &copy);
+    if (is_copied) *text = copy;
+    return is_copied;
 }
 
-const char *open_lost_file(struct file *file, const char *typed) {
-    char above[PATH_MAX], folder[PATH_MAX], last[PATH_MAX], rest[2 * PATH_MAX] = "";
-    const char *message = open_file(file, typed);
-    if (!message || !file->is_lost || strlen(typed) >= PATH_MAX) return message;
-    put_path(above, "%s", typed);
-    while (file->folder < 0 && split(above, folder, last)) {
-        char more[PATH_MAX];
-        int length = snprintf(more, sizeof more, "%s%s%s", last, rest[0] ? "/" : "", rest);
-        if (length < 0 || length >= (int)sizeof more) return message;
-        put_path(rest, "%s", more);
+enum cause open_file(struct file *file, const char *typed) {
+    *file = (struct file){.typed = typed, .folder = -1, .itself = -1, .text = -1};
+    enum cause cause = find_and_open(file);
+    if (cause != CAUSE_NONE) close_file(file);
+    return cause;
+}
+
+/* Opens the folder of a name that something else than a plain file has. */
+static enum cause open_name(struct file *file, const char *typed, enum cause other) {
+    char folder[PATH_MAX];
+    *file = (struct file){.typed = typed, .folder = -1, .itself = -1, .text = -1, .other = other};
+    if (!split(typed, folder, file->name) || !file->name[0]) return other;
+    file->folder = open_folder(AT_FDCWD, folder);
+    if (file->folder < 0) return other;
+    put_path(file->folder_name, "%s", folder);
+    name_paths(file);
+    find_id(file->folder, &file->folder_id);
+    return CAUSE_NONE;
+}
+
+enum cause open_lost_file(struct file *file, const char *typed) {
+    char above[PATH_MAX], folder[PATH_MAX];
+    enum cause cause = open_file(file, typed);
+    bool is_other = cause == CAUSE_FOLDER || cause == CAUSE_DEVICE || cause == CAUSE_BROKEN_LINK || cause == CAUSE_CIRCLE_OF_LINKS;
+    if (is_other) return open_name(file, typed, cause);
+    if (!file->is_lost || !put_path(above, "%s", typed)) return cause;
+    const char *rest = typed;
+    while (file->folder < 0 && split(above, folder, file->name)) {
         file->folder = open_folder(AT_FDCWD, folder);
+        rest = strchr(above, '/') ? typed + strlen(folder) : typed;
         if (strcmp(folder, ".") == 0 || strcmp(folder, "/") == 0) break;
         put_path(above, "%s", folder);
     }
-    if (file->folder < 0) return message;
+    if (file->folder < 0) return cause;
+    put_path(file->name, "%s", rest + strspn(rest, "/"));
     put_path(file->folder_name, "%s", folder);
-    put_path(file->name, "%s", rest);
     name_paths(file);
     find_id(file->folder, &file->folder_id);
-    find_folder_facts(file->folder, &file->folder_facts);
     split(file->path, file->folder_path, file->name);
     file->is_at_path = false;
-    return NULL;
+    return CAUSE_NONE;
 }
 
 void release_file(struct file *file) {
@@ -266,105 +332,63 @@ void close_file(struct file *file) {
 
 /* ---- refusals, and what is told */
 
-bool is_closed(const struct file *file) {
-    return file->stamp.is_there && !file->facts.readable;
+enum cause check_access_to(const struct file *file, bool is_in_place) {
+    if (file->is_unreadable) return CAUSE_UNREADABLE;
+    if (!file->folder_facts.writable && !is_in_place) return CAUSE_FOLDER_PROTECTED;
+    return file->stamp.is_there && !file->facts.writable ? CAUSE_WRITE_PROTECTED : CAUSE_NONE;
 }
 
-/* The message for a name that leaves no room for a draft's name; NULL if there is room. */
-static const char *refuse_long_name(const struct file *file) {
-    uint64_t longest = file->folder_facts.longest_name, most = longest > END_BYTES ? longest - END_BYTES : 0;
-    size_t length = strlen(file->name);
-    if (length <= most) return NULL;
-    return text_of("the name %s has %zu bytes, too many for a save: the limit is %llu, since a save adds %d; --force opens it anyway",
-                   shown(file->name), length, (unsigned long long)most, END_BYTES);
+enum cause check_encoding(const struct file *file) {
+    char front[FRONT];
+    ssize_t count = file->text >= 0 ? pread(file->text, front, sizeof front, 0) : 0;
+    if (count >= 2 && (memcmp(front, "\xff\xfe", 2) == 0 || memcmp(front, "\xfe\xff", 2) == 0)) return CAUSE_UTF16;
+    bool is_binary = count > 0 && ((count >= 4 && memcmp(front, "\x7f" "ELF", 4) == 0) || memchr(front, 0, (size_t)count));
+    return is_binary ? CAUSE_BINARY : CAUSE_NOT_UTF8;
 }
 
-const char *unreadable_message(const struct file *file) {
-    return refuse(file, "cannot be read: if it is yours, chmod u+r makes it readable; --force opens an empty text in its place");
+const char *file_message(const struct file *file, enum cause cause, unsigned long long number) {
+    struct stat found;
+    if (cause == CAUSE_TOO_LONG && file->text >= 0 && fstat(file->text, &found) == 0) number = (unsigned long long)found.st_size;
+    return cause_message(cause, file->typed, file->folder_name, number);
 }
 
-const char *refuse_access(const struct file *file, bool is_in_place) {
-    if (is_closed(file)) return unreadable_message(file);
-    const char *message = refuse_long_name(file);
-    if (message) return message;
-    if (!file->folder_facts.writable && !is_in_place)
-        return text_of("you cannot write to the folder %s, so no save is possible: edit a copy elsewhere; --force opens the file anyway",
-                       shown(file->folder_name));
-    if (file->stamp.is_there && !file->facts.writable)
-        return refuse(file, "is write-protected: if it is yours, chmod u+w makes it writable; --force opens it anyway");
-    return NULL;
-}
-
-size_t draft_stem(const struct file *file) {
-    size_t length = strlen(file->name), rest = 1 + DRAFT_LETTERS + END_BYTES;
-    uint64_t longest = file->folder_facts.longest_name;
-    uint64_t most = longest > NAME_MAX ? NAME_MAX - rest : longest > rest ? longest - rest : 0;
-    if (length <= most) return length;
-    length = (size_t)most;
+size_t draft_stem(const char *name) {
+    size_t length = strlen(name);
+    if (length <= DRAFT_STEM) return length;
+    length = DRAFT_STEM;
     /* not within a character */
-    while (length > 0 && ((unsigned char)file->name[length] & 0xC0) == 0x80) length--;
+    while (length > 0 && ((unsigned char)name[length] & 0xC0) == 0x80) length--;
     return length;
 }
 
-void backup_name(const struct file *file, int number, char name[PATH_MAX + 8]) {
-    snprintf(name, PATH_MAX + 8, number ? "%s" DRAFT_END "%d" : "%s" DRAFT_END, file->name, number);
-}
-
-/* Whether a name is that of a draft of FILE, as draft_stem and DRAFT_END make it. */
-static bool is_draft(const struct file *file, size_t stem, const char *name) {
+/* Whether a name is that of a draft or backup of FILE. */
+static bool is_left(const struct file *file, const char *name) {
+    size_t stem = draft_stem(file->name), whole = strlen(file->name);
+    if (strncmp(name, file->name, whole) == 0 && strncmp(name + whole, DRAFT_END, sizeof DRAFT_END - 1) == 0) {
+        const char *number = name + whole + sizeof DRAFT_END - 1;
+        if (!*number || (*number >= '1' && *number <= '9' && !number[1])) return true;
+    }
     if (strncmp(name, file->name, stem) != 0 || name[stem] != '.') return false;
-    name += stem + 1;
-    return strspn(name, DRAFT_ALPHABET) == DRAFT_LETTERS && strcmp(name + DRAFT_LETTERS, DRAFT_END) == 0;
+    return strspn(name + stem + 1, DRAFT_ALPHABET) == DRAFT_LETTERS && strcmp(name + stem + 1 + DRAFT_LETTERS, DRAFT_END) == 0;
 }
 
-/* Adds a name beside FILE to a list for a message, by the path that the user has typed, unless links lead elsewhere. */
-static char *add_name(const struct file *file, char *names, const char *name) {
+const char *path_beside(const struct file *file, const char *name) {
     const char *slash = strrchr(file->typed, '/');
-    if (file->is_linked) return text_of("%s %s", names, shown(text_of("%s/%s", before_slash(file->folder_path), name)));
-    return text_of("%s %s", names, shown(text_of("%.*s%s", slash ? (int)(slash - file->typed) + 1 : 0, file->typed, name)));
+    if (file->is_linked) return text_of("%s/%s", before_slash(file->folder_path), name);
+    return text_of("%.*s%s", slash ? (int)(slash - file->typed) + 1 : 0, file->typed, name);
 }
 
-/* Adds the drafts beside FILE. Reads at most MOST_NAMES names, so that a large folder does not hold up a start. */
-static char *add_drafts(const struct file *file, char *names) {
+/* At most MOST_NAMES names are read, so that a large folder does not hold up a start. */
+const char *leftovers_line(const struct file *file) {
     const char *name;
     int count = 0, drafts = 0;
+    char *names = text_of("%s", "");
     DIR *entries = open_entries(file->folder);
-    size_t stem = draft_stem(file);
     while (entries && count++ < MOST_NAMES && drafts < MOST_DRAFTS && (name = next_entry(entries))) {
-        if (!is_draft(file, stem, name)) continue;
-        names = add_name(file, names, name);
+        if (!is_left(file, name)) continue;
+        names = text_of("%s %s", names, shown(path_beside(file, name)));
         drafts++;
     }
     if (entries) closedir(entries);
-    return names;
-}
-
-const char *leftovers_line(const struct file *file) {
-    char *names = text_of("%s", ""), name[PATH_MAX + 8];
-    for (int number = 0; number < BACKUP_NAMES; number++) {
-        struct stat found;
-        backup_name(file, number, name);
-        if (fstatat(file->folder, name, &found, 0) == 0) names = add_name(file, names, name);
-    }
-    names = add_drafts(file, names);
-    if (!names[0]) return NULL;
-    return text_of("possibly left by an interrupted save; check, and remove what you do not need:%s", names);
-}
-
-const char *not_utf8_message(const struct file *file, unsigned long long line) {
-    unsigned char front[FRONT];
-    ssize_t count = file->text >= 0 ? pread(file->text, front, sizeof front, 0) : 0;
-    size_t length = count > 0 ? (size_t)count : 0;
-    if (length >= 2 && (memcmp(front, "\xff\xfe", 2) == 0 || memcmp(front, "\xfe\xff", 2) == 0))
-        return refuse(file, "is UTF-16, not UTF-8: iconv -f UTF-16 -t UTF-8 converts it");
-    if (length > 0 && ((length >= 4 && memcmp(front, "\x7f" "ELF", 4) == 0) || memchr(front, 0, length)))
-        return refuse(file, "is a binary file, not text: od -c shows its bytes");
-    return text_of("%s is not UTF-8 (line %llu): if it is Hebrew text from Windows, iconv -f CP1255 -t UTF-8 converts it (Arabic: -f CP1256)",
-                   shown(file->typed), line);
-}
-
-const char *too_long_message(const struct file *file) {
-    struct stat found;
-    long long size = file->text >= 0 && fstat(file->text, &found) == 0 ? (long long)found.st_size : 0;
-    return text_of("%s has %lld bytes, more than the limit of %d: split -C 16M cuts it at line ends", shown(file->typed), size, LARGEST_TEXT);
+    return drafts > 0 ? text_of("possibly left by an interrupted save; check, and remove what you do not need:%s", names) : NULL;
 }

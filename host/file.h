@@ -7,30 +7,29 @@
 #include <stdint.h>
 #include <sys/stat.h>
 
+#include "cause.h"
 #include "session_judge.h"
 
 /* The largest text, in bytes. */
 enum { LARGEST_TEXT = 16777216 };
 
-/* ---- facts about an open file or folder that only the system knows (facts.c) */
+/* ---- facts about an open file or folder that only the system knows */
 
 enum answer { NO, YES, UNKNOWN };
 
 struct facts {
-    /* The user may read it; write it; run or enter it. */
-    bool readable, writable, searchable;
-    /* It has an access list that says more than its mode; it is a folder that gives new files an access list. */
-    bool has_access_list, gives_access_lists;
+    /* The user may write it. */
+    bool writable;
+    /* It has an access list that says more than its mode. */
+    enum answer access_list;
+    /* It is a folder that gives new files an access list. */
+    bool gives_access_lists;
     /* It has a security label other than its folder's, capabilities, or another attribute that only root can set. */
     bool has_label;
     /* It is the root of a mount. */
     bool is_mount;
     /* Its folder has the sticky bit, as /tmp has, so only another user can replace it. */
     bool is_held_by_folder;
-    /* The system did not say whether there are lists or labels. */
-    bool is_unsure;
-    /* The bytes of the longest name. */
-    uint64_t longest_name;
 };
 
 /* The facts about a file that is open (O_PATH is enough), and about its folder. */
@@ -42,7 +41,7 @@ bool is_in_memory(int at);
 uint64_t free_room(int at);
 enum answer has_access_list(int at);
 
-/* ---- FILE (file.c) */
+/* ---- FILE */
 
 /* What was at a name, the link itself if it was one. */
 struct file_stamp {
@@ -58,6 +57,8 @@ struct file {
     char name[PATH_MAX];
     /* FILE, opened by O_PATH, and opened for reading; -1 if FILE is not there, or cannot be read. */
     int itself, text;
+    /* FILE is there, and the user cannot read it; it begins with a byte order mark, which `text`, a copy in memory, lacks. */
+    bool is_unreadable, has_mark;
     /* What was at the name at the opening. */
     struct file_stamp stamp;
     /* Of FILE, if it was there, and of its folder. */
@@ -70,47 +71,50 @@ struct file {
     char folder_name[PATH_MAX];
     /* A link was followed. */
     bool is_linked;
-    /* The folder is gone: `folder` is the nearest one above that is there, `name` is empty, and nothing can be saved. */
+    /* What has FILE's name by now cannot be edited, for this cause: only the name counts. */
+    enum cause other;
+    /* The folder is gone: `folder` is the nearest one above that is there, and nothing can be saved. */
     bool is_lost;
 };
 
-/* Opens FILE, or only its folder if FILE does not exist. Returns NULL, or the message that refuses FILE: it is not a plain file, or its
- * folder does not exist. Opening a pipe or device never waits. */
-const char *open_file(struct file *file, const char *typed);
+/* Opens FILE, or only its folder if FILE does not exist. Fails if FILE is not a plain file, or its folder does not exist. Opening a pipe or
+ * device never waits. */
+enum cause open_file(struct file *file, const char *typed);
 
-/* The same, but FILE's folder may be gone. */
-const char *open_lost_file(struct file *file, const char *typed);
+/* The same for a session's FILE: its folder may be gone, and something else may be in its place. */
+enum cause open_lost_file(struct file *file, const char *typed);
+
+/* A byte order mark, which is no text. Puts a copy in memory without it in place of an open text that begins with it, and returns whether it
+ * does. Without memory, and where the text is too long, the mark stays. */
+#define BYTE_ORDER_MARK "\xef\xbb\xbf"
+bool leave_out_mark(int *text);
 
 /* Closes FILE once it was read and copied, but not its folder: some network disks rename a replaced file that is still open, and keep
  * it. close_file closes all. */
 void release_file(struct file *file);
 void close_file(struct file *file);
 
-/* Whether FILE exists and the user cannot read it. */
-bool is_closed(const struct file *file);
+/* Whether FILE cannot be read or saved. */
+enum cause check_access_to(const struct file *file, bool is_in_place);
 
-/* The message that refuses a FILE that cannot be read or saved; NULL if it can be. */
-const char *refuse_access(const struct file *file, bool is_in_place);
+/* Why FILE, which the program could not read as UTF-8, is no text. */
+enum cause check_encoding(const struct file *file);
 
-/* A draft beside FILE is named by the first bytes of FILE's name, as many as draft_stem says, a point, DRAFT_LETTERS random letters of
- * DRAFT_ALPHABET, and DRAFT_END. */
-#define DRAFT_END ".bx"
-#define DRAFT_ALPHABET "abcdefghijklmnopqrstuvwxyz0123456789"
-enum { DRAFT_LETTERS = 8 };
-size_t draft_stem(const struct file *file);
-
-/* The backup is the file with the whole text while a save overwrites FILE. Beside FILE, BACKUP_NAMES names are tried for it: FILE.bx, and
- * FILE.bx1 to FILE.bx9. */
-enum { BACKUP_NAMES = 10 };
-void backup_name(const struct file *file, int number, char name[PATH_MAX + 8]);
+/* The message about FILE. `number`: the line, from 1, that is not UTF-8. */
+const char *file_message(const struct file *file, enum cause cause, unsigned long long number);
 
 /* The message that names files which killed saves left beside FILE; NULL if there are none. */
 const char *leftovers_line(const struct file *file);
 
-/* The messages about a FILE that cannot be read; that is not UTF-8 in this line, from 1; that is too large. */
-const char *unreadable_message(const struct file *file);
-const char *not_utf8_message(const struct file *file, unsigned long long line);
-const char *too_long_message(const struct file *file);
+/* The path of a name beside FILE, by the folder that the user has typed, unless links lead elsewhere. */
+const char *path_beside(const struct file *file, const char *name);
+
+/* A draft beside FILE is named by the first bytes of FILE's name, at most DRAFT_STEM, a point, DRAFT_LETTERS random letters, and `.bx`. The
+ * backup, which has the whole text while a save overwrites FILE, is FILE.bx, or FILE.bx1 to FILE.bx9. */
+#define DRAFT_END ".bx"
+#define DRAFT_ALPHABET "abcdefghijklmnopqrstuvwxyz0123456789"
+enum { DRAFT_STEM = 64, DRAFT_LETTERS = 8, BACKUP_NAMES = 10 };
+size_t draft_stem(const char *name);
 
 /* Looks at a name in a folder. Returns false at a fault other than that nothing is there. */
 bool stamp_at(int folder, const char *name, struct file_stamp *stamp);

@@ -26,24 +26,9 @@ enum frame_letter {
     FRAME_BEGIN = 'B',
     FRAME_PIECE = 'P',
     FRAME_COMMIT = 'C',
-    /* The host's answers: done; failed, with one byte of enum save_cause. */
+    /* The host's answers: done; failed, with one byte of enum cause. */
     FRAME_DONE = 'k',
     FRAME_FAILED = 'x',
-};
-
-/* Why a save failed, in the order of bx_store. */
-enum save_cause {
-    SAVE_NO_SPACE = 1,
-    SAVE_NOT_PERMITTED,
-    SAVE_FOLDER_GONE,
-    SAVE_READ_ONLY,
-    SAVE_TOO_LARGE,
-    SAVE_OUT_OF_MEMORY,
-    SAVE_CHANGED,
-    SAVE_NOT_PLAIN,
-    SAVE_CUT_OFF,
-    SAVE_OTHER,
-    SAVE_EXISTS,
 };
 
 /* What the program shows in its last row, by number. NOTICE_NONE shows nothing, but like all input it makes the program try its journal
@@ -67,7 +52,7 @@ enum end_word { END_NONE, END_SAVED, END_UNSAVED, END_DROPPED, END_INPUT, END_OU
 
 /* FRAME_HEAD: the bytes of letter and length. WORD_MOST: the most bytes of a frame on standard error. They are so few that the
  * second byte of a frame is a control character, so no other text looks like a frame. */
-enum { FRAME_HEAD = 3, FRAME_MOST = 65535, WORD_MOST = 2047 };
+enum { FRAME_HEAD = 3, FRAME_MOST = 65535, FRAME_PIECE_MOST = 1024, WORD_MOST = 2047 };
 
 struct frame {
     char letter;
@@ -78,31 +63,15 @@ struct frame {
 /* Gives the frame at the start of these bytes. Returns its length including its head, or 0 if it is not complete. */
 size_t find_frame(const unsigned char *held, size_t length, struct frame *frame);
 
-/* Writes one frame to a file that blocks. Returns false at a fault. */
+/* Writes one frame of at most FRAME_PIECE_MOST bytes to a pipe: all of it, or, where the pipe does not block and has no room, nothing. Returns false
+ * if it was not written; errno is EAGAIN without room. */
 bool write_frame(int file, enum frame_letter letter, const void *bytes, size_t length);
-
-/* Frames that wait to be written to a pipe that does not block. If `has_size`, the last one, at `size_at`, is a size. */
-enum { QUEUE_ROOM = 16384 };
-struct frame_queue {
-    unsigned char bytes[QUEUE_ROOM];
-    size_t start, end, size_at;
-    bool has_size;
-};
-
-/* Appends a frame. If it and the last frame are sizes, it replaces that one. Returns false, and appends nothing, if there is no room. */
-bool put_frame(struct frame_queue *queue, enum frame_letter letter, const void *bytes, size_t length);
-
-/* The bytes that wait. */
-size_t queue_length(const struct frame_queue *queue);
-
-/* Writes as much as the pipe takes. Returns false if nobody reads the pipe any more. */
-bool write_queue(struct frame_queue *queue, int file);
 
 /* Reads the program's standard error: frames, which are called words, and other text, such as a crash message, of which the first bytes
  * are kept as `foreign`. */
 enum { FOREIGN_MOST = 4096 };
 struct word_reader {
-    unsigned char bytes[2 * (FRAME_HEAD + WORD_MOST)];
+    unsigned char bytes[FRAME_HEAD + WORD_MOST + 1];
     size_t length, foreign_length;
     char foreign[FOREIGN_MOST];
 };

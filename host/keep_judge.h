@@ -4,6 +4,7 @@
 
 #include <stdbool.h>
 
+#include "cause.h"
 #include "frames.h"
 #include "session_judge.h"
 
@@ -17,32 +18,24 @@ enum choice choice_of(const char *answer);
 /* Whether an answer is this word or the word's first letter. */
 bool is_word(const char *answer, const char *word);
 
-/* ---- errors of the system */
+/* ---- causes */
 
-/* The notice for a session that cannot be kept because of this errno. */
-enum notice notice_of(int error);
+/* The notice for a session that cannot be kept. */
+enum notice notice_of(enum cause cause);
 
 /* What messages add about a file that cannot be written; empty where there is nothing to add. */
-const char *fault_words(int error);
+const char *fault_words(enum cause cause);
 
-/* ---- a session as its program starts, and while it runs */
-
-/* What decides the first notice. `unkept` says why no session is kept; NOTICE_NONE if one is. */
-struct first_facts {
-    enum notice unkept;
-    bool is_unwanted, is_aside, is_resumed, is_in_place;
-};
-/* The first notice; NOTICE_NONE where there is none. */
-enum notice first_notice(const struct first_facts *facts);
+/* ---- a session while its program runs */
 
 struct now_facts {
     /* There is a session; the user wants none. */
     bool has_session, is_unwanted;
     /* The notice about this that was shown last; NOTICE_NONE if none was. */
     enum notice told;
-    /* What session_mind says of the session, the errno if it is not kept now, and whether it has the text as it was opened. */
+    /* What session_mind says of the session, the cause if it is not kept now, and whether it has the text as it was opened. */
     enum keeping keeping;
-    int error;
+    enum cause cause;
     bool is_filled;
     /* The program could not write the journal, and the journal still lacks bytes; the probable reason. */
     bool is_journal_lost;
@@ -59,14 +52,10 @@ enum title_note title_note_of(const struct now_facts *facts, enum notice trouble
 
 /* How the program left the text. LEFT_UNKNOWN: it was killed, or a fault ended it. LEFT_REFUSED: it opened nothing. */
 enum left_how { LEFT_SAVED, LEFT_UNSAVED, LEFT_DROPPED, LEFT_UNKNOWN, LEFT_REFUSED };
-enum left_how left_how(enum end_word end, bool is_refused);
-
-/* Whether there may be unsaved text, which the exit message has to mention. */
-bool may_be_unsaved(enum left_how how);
 
 struct left {
     enum left_how how;
-    /* is_there: the session's folder exists. is_filled: the session can be recovered, since it has all parts. has_keys: the journal
+    /* is_there: the session's folder exists. is_filled: the session can be recovered, since it has what that needs. has_keys: the journal
      * has keys, or the text counts as changed from the start. */
     bool is_there, is_filled, has_keys;
     /* FILE has only a part of a save's text; FILE has the session's text; only root could read FILE. */
@@ -75,19 +64,12 @@ struct left {
 
 enum fate {
     FATE_GONE,    /* its folder is gone */
-    FATE_REMOVED, /* removed: FILE has all of it, or it has nothing */
-    FATE_LOST,    /* removed: it cannot be recovered without the text as it was opened */
+    FATE_REMOVED, /* removed: FILE has all of it, it has nothing, or it was dropped before it could be recovered */
+    FATE_LOST,    /* left as it is, though it cannot be recovered */
     FATE_DROPPED, /* kept as the last one whose changes were dropped */
     FATE_WIPED,   /* dropped, and removed, since root alone could read FILE */
     FATE_KEPT     /* kept to be recovered */
 };
 enum fate fate_of(const struct left *left);
-
-/* Whether the keys are replayed at the end, to leave the resulting text in the session: only if a journal of this size is replayed quickly
- * enough. */
-bool is_replayed_at_end(long long journal_size, bool is_signalled);
-
-/* The umask for new files of the program if FILE had this mode: all permissions for others than the owner that FILE did not give. */
-unsigned mask_for(unsigned mode);
 
 #endif

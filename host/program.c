@@ -11,17 +11,15 @@
 #include <sys/stat.h>
 #include <unistd.h>
 
+#include "say.h"
 #include "signals.h"
 #include "terminal.h"
 #include "util.h"
-#include "words.h"
 
 /* The most bytes that wait in the program's input: few, since the program obeys all of them before it ends. */
 enum { INPUT_ROOM = 16384 };
 /* Milliseconds that standard error may take to accept the program's text outside frames, without and with a signal. */
 enum { FOREIGN_MS = 1000, FOREIGN_BY_SIGNAL_MS = 200 };
-/* The number of arguments that come before those of a run. */
-enum { OWN_WORDS = 13 };
 
 void close_pipes(struct pipes *pipes) {
     close_one(&pipes->keys);
@@ -39,79 +37,54 @@ static bool open_pipe(int *reading, int *writing) {
     return true;
 }
 
-bool open_words(struct pipes *pipes, struct pipes *ends) {
-    *pipes = (struct pipes){-1, -1, -1, -1};
-    *ends = (struct pipes){-1, -1, -1, -1};
-    return open_pipe(&pipes->words, &ends->words) && fcntl(pipes->words, F_SETFL, O_NONBLOCK) == 0;
-}
-
 bool open_pipes(struct pipes *pipes, struct pipes *ends) {
-    bool is_open = open_pipe(&ends->keys, &pipes->keys) && open_pipe(&pipes->requests, &ends->requests) &&
-                   open_pipe(&ends->answers, &pipes->answers) && fcntl(pipes->keys, F_SETFL, O_NONBLOCK) == 0;
+    *pipes = *ends = (struct pipes){-1, -1, -1, -1};
+    bool is_open = open_pipe(&pipes->words, &ends->words) && open_pipe(&ends->keys, &pipes->keys) && open_pipe(&pipes->requests, &ends->requests) &&
+                   open_pipe(&ends->answers, &pipes->answers) && fcntl(pipes->words, F_SETFL, O_NONBLOCK) == 0 &&
+                   fcntl(pipes->keys, F_SETFL, O_NONBLOCK) == 0;
     /* if this fails, a larger pipe does as well */
     if (is_open) fcntl(pipes->keys, F_SETPIPE_SZ, INPUT_ROOM);
     return is_open;
 }
 
-/* Appends the arguments of a run to those of the host. Returns false if there are too many. */
-static bool add_words(char *all[OWN_WORDS + WORDS_MOST + 2], size_t count, char *const *words) {
-    for (size_t i = 0; words[i]; i++) {
-        if (i == WORDS_MOST) return false;
-        all[count++] = words[i];
-    }
-    all[count] = NULL;
-    return true;
+void make_words(struct words *words, const struct run *run, const struct pipes *ends, unsigned rows, unsigned columns) {
+    add_word(words, run->program);
+    add_word(words, "--frames");
+    add_option(words, "--saves", text_of("%d,%d", ends->requests, ends->answers));
+    add_option(words, "--before", first_sequences());
+    add_option(words, "--rows", text_of("%u", rows));
+    add_option(words, "--cols", text_of("%u", columns));
+    add_option(words, "--erase", text_of("%02x", (unsigned)erase_character()));
+    if (run->has_clipboard && bears_clips()) add_word(words, "--clipboard");
+    for (char *const *word = run->words; *word; word++) add_word(words, *word);
 }
 
-/* In the child: lets the program keep the open files that its command line names. */
-static void hand_on_files(const struct run *run) {
+/* Becomes the program: the last step of both ways to start it, with standard files and the open files that its command line names. It ignores
+ * SIGXFSZ, so that a write beyond the limit of a file's size fails and does not kill it. A fault goes to the pipe of standard error, and
+ * the host shows it at its end (tell_foreign). */
+static _Noreturn void become(const struct run *run, char *const *words, const int standard[3]) {
+    for (int number = 0; number < 3; number++)
+        if (dup2(standard[number], number) < 0) _exit(126);
     for (size_t i = 0; i < run->handed_count; i++)
         if (run->handed[i] >= 0) fcntl(run->handed[i], F_SETFD, 0);
-}
-
-/* Becomes the program: the last step of both ways to start it. `mask` is added to the umask. A fault goes to the pipe of standard error,
- * and the host shows it at its end (tell_foreign). */
-static _Noreturn void become(char *const *words, mode_t mask) {
-    umask(umask(0) | mask);
+    umask(umask(0) | (mode_t)run->mask);
     give_back_signals();
+    signal(SIGXFSZ, SIG_IGN);
     execv(words[0], words);
     dprintf(STDERR_FILENO, "bidi-edit: %s cannot be started: %s\n", words[0], strerror(errno));
     _exit(127);
 }
 
-/* Becomes the program. It ignores three signals: a hangup, since it ends at its input's end; a stop of the job, which the host manages; and
- * SIGXFSZ, so that a write beyond the limit of a file's size fails and does not kill it. */
-static _Noreturn void become_program(const struct run *run, const struct pipes *ends, char *const *words) {
+pid_t start_program(const struct run *run, const struct pipes *ends, const struct words *words) {
+    pid_t program = fork();
+    if (program != 0) return program;
+    /* it ends at its input's end; the host manages stops of the job */
     signal(SIGHUP, SIG_IGN);
     signal(SIGTSTP, SIG_IGN);
-    signal(SIGXFSZ, SIG_IGN);
     watched->program = getpid();
-    if (dup2(ends->keys, STDIN_FILENO) < 0 || dup2(terminal_screen, STDOUT_FILENO) < 0 || dup2(ends->words, STDERR_FILENO) < 0) _exit(126);
-    hand_on_files(run);
     fcntl(ends->requests, F_SETFD, 0);
     fcntl(ends->answers, F_SETFD, 0);
-    become(words, (mode_t)run->mask);
-}
-
-/* The host's own arguments come first, and those of the run after them, since FILE has to be the last one. OWN_WORDS is the number of the
- * host's own; --clipboard stays the last of these. */
-pid_t start_program(const struct run *run, const struct pipes *ends, unsigned rows, unsigned columns) {
-    char saves[32], side[2][16], erase[4], *words[OWN_WORDS + WORDS_MOST + 2];
-    snprintf(saves, sizeof saves, "%d,%d", ends->requests, ends->answers);
-    snprintf(side[0], sizeof side[0], "%u", rows);
-    snprintf(side[1], sizeof side[1], "%u", columns);
-    snprintf(erase, sizeof erase, "%02x", (unsigned)erase_character());
-    char *const own[] = {(char *)run->program, "--frames", "--saves", saves, "--before", (char *)first_sequences(),
-                         "--rows", side[0], "--cols", side[1], "--erase", erase, "--clipboard"};
-    size_t count = sizeof own / sizeof *own;
-    memcpy(words, own, sizeof own);
-    /* leaves out --clipboard, the last one */
-    if (!run->has_clipboard || !bears_clips()) count--;
-    errno = E2BIG;
-    if (!add_words(words, count, run->words)) return -1;
-    pid_t program = fork();
-    if (program == 0) become_program(run, ends, words);
-    return program;
+    become(run, words->words, (const int[]){ends->keys, terminal_screen, ends->words});
 }
 
 /* Takes in one frame of the program. `whose` is the struct run. */
@@ -156,39 +129,28 @@ void tell_foreign(const struct word_reader *reader) {
     write_within(STDERR_FILENO, letters, count, end_signal ? FOREIGN_BY_SIGNAL_MS : FOREIGN_MS, true);
 }
 
-/* Becomes the program without a terminal. The kernel kills it when the host dies. */
-static _Noreturn void become_aside(const struct run *run, char *const *words, int words_end, pid_t host) {
-    int none = open("/dev/null", O_RDWR | O_CLOEXEC);
-    if (prctl(PR_SET_PDEATHSIG, SIGKILL) != 0 || getppid() != host) _exit(1);
-    signal(SIGXFSZ, SIG_IGN);
-    if (none < 0 || dup2(none, STDIN_FILENO) < 0 || dup2(none, STDOUT_FILENO) < 0 || dup2(words_end, STDERR_FILENO) < 0) _exit(126);
-    hand_on_files(run);
-    become(words, (mode_t)run->mask);
-}
-
-/* Reads what the program says until its end, until the time `end`, or until a signal's last moment. */
-static void hear_aside(struct run *run, int words, int64_t end) {
-    struct word_reader reader = {.length = 0};
-    struct pollfd wanted = {.fd = words, .events = POLLIN};
-    while (read_words_of(run, &reader, words)) {
-        int64_t last = last_moment();
-        if (end == 0 || (last != 0 && last < end)) end = last;
-        if (end != 0 && now() >= end) return;
-        wait_for(&wanted, 1, end);
-    }
-    tell_foreign(&reader);
-}
-
 int run_aside(struct run *run, char *const *words, int64_t limit) {
-    int reading = -1, writing = -1, status = 0;
+    int reading = -1, writing = -1, status = 0, none = open("/dev/null", O_RDWR | O_CLOEXEC);
     int64_t end = limit == 0 ? 0 : now() + limit;
     pid_t host = getpid();
+    struct word_reader reader = {.length = 0};
     run->said = (struct said){.end = END_NONE};
-    if (!open_pipe(&reading, &writing)) return -1;
+    if (none < 0 || !open_pipe(&reading, &writing)) return -1;
     pid_t child = fcntl(reading, F_SETFL, O_NONBLOCK) == 0 ? fork() : -1;
-    if (child == 0) become_aside(run, words, writing, host);
+    if (child == 0) {
+        /* the kernel kills it when the host dies */
+        if (prctl(PR_SET_PDEATHSIG, SIGKILL) != 0 || getppid() != host) _exit(1);
+        become(run, words, (const int[]){none, none, writing});
+    }
     close(writing);
-    if (child > 0) hear_aside(run, reading, end);
+    close(none);
+    while (child > 0 && read_words_of(run, &reader, reading)) {
+        int64_t last = last_moment();
+        if (end == 0 || (last != 0 && last < end)) end = last;
+        if (end != 0 && now() >= end) break;
+        wait_for(&(struct pollfd){.fd = reading, .events = POLLIN}, 1, end);
+    }
+    tell_foreign(&reader);
     close(reading);
     bool is_ended = child > 0 && wait_for_child(&child, &status, end);
     kill_child(&child);

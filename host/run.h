@@ -8,6 +8,7 @@
 #include <sys/types.h>
 
 #include "frames.h"
+#include "words.h"
 
 struct saver;
 
@@ -28,7 +29,9 @@ struct run {
      * --saves, --before, --rows, --cols, --erase, --clipboard). The last argument is FILE, and NULL ends them. */
     const char *program;
     char *const *words;
-    const char *title;
+    /* The window's title; a message for the last row until a key is pressed; what the watcher says if the host is killed. The latter two may
+     * be NULL. */
+    const char *title, *hint, *last_line;
     /* The terminal is asked to report the mouse; what is copied goes to the system's clipboard too. */
     bool has_mouse, has_clipboard;
     /* For a recovered session the size of the window that it began in; else 0. */
@@ -63,7 +66,12 @@ enum run_end { RUN_ENDED, RUN_NOT_STARTED };
  * Text on the program's standard error that is not a frame, such as a crash message, is written out once the terminal is restored. */
 enum run_end run_program(struct run *run);
 
-/* Makes the program show a notice: at once, or at its start if called before run_program. */
+/* In a child of the host: closes what belongs to the run, so that the program's end is seen. Returns a file that can be read once the program
+ * has ended; -1 where the system has none. */
+int leave_run(void);
+
+/* Makes the program show a notice: at once, or at its start if called before run_program. While the message of a failed save is shown, it
+ * waits for the next key. */
 void give_notice(enum notice notice);
 
 /* Whether bytes were typed since this was called last. Only in callbacks. */
@@ -85,15 +93,14 @@ int run_aside(struct run *run, char *const *words, int64_t limit);
 struct pipes {
     int keys, words, requests, answers;
 };
-
-/* Creates the pipe `words`, which the watcher inherits too, and later the others, which it must not inherit. Each returns false if that
- * fails. */
-bool open_words(struct pipes *pipes, struct pipes *ends);
 bool open_pipes(struct pipes *pipes, struct pipes *ends);
 void close_pipes(struct pipes *pipes);
 
-/* Starts the program with this size of the window. Returns its process, or -1. */
-pid_t start_program(const struct run *run, const struct pipes *ends, unsigned rows, unsigned columns);
+/* Puts the program's arguments together, for this size of the window. The host's own come first, since FILE has to be the last one. */
+void make_words(struct words *words, const struct run *run, const struct pipes *ends, unsigned rows, unsigned columns);
+
+/* Starts the program. Returns its process, or -1. */
+pid_t start_program(const struct run *run, const struct pipes *ends, const struct words *words);
 
 /* Reads the program's frames that have arrived. Returns false at the end of the pipe. */
 bool read_words_of(struct run *run, struct word_reader *reader, int words);

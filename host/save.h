@@ -5,17 +5,22 @@
 #include <stdbool.h>
 #include <sys/types.h>
 
+#include "cause.h"
 #include "file.h"
 
 struct saved;
 
 struct saver {
-    /* Given before the first save. Files that the child keeps open: the session's folder, where saves go into FILE itself with the
-     * backup there, else -1; the session's lock, or -1. */
+    /* Given before the first save. Files that the child keeps open: the session's folder, if saves overwrite FILE with the backup there,
+     * else -1; the session's lock, or -1. */
     struct file *file;
     int backup_folder, lock;
-    /* Saves go into FILE itself, with the backup beside it. */
+    /* The permissions that a FILE which is gone had, as its session recorded them; -1 if they are unknown. */
+    int lost_mode;
+    /* Saves overwrite FILE, with the backup beside it. */
     bool is_itself;
+    /* What identifies this run of the system; empty if unknown. */
+    const char *boot;
     /* What the saves so far left, in memory that the child writes to. */
     struct saved *saved;
     /* Where the last child answers. */
@@ -26,9 +31,11 @@ struct saver {
  * since sessions of earlier versions have them. */
 #define BACKUP_NAME "mark"
 #define BACKUP_DRAFT_NAME "mark.bx"
+/* The file there that says how far a save into FILE has come (struct step). */
+#define STEP_NAME "mark.step"
 
-/* Prepares a saver. What it has seen of FILE last is `file` as it was opened. backup_folder, lock and is_itself are -1, -1 and false, and
- * the caller may set them. Returns false without memory. */
+/* Prepares a saver. What it has seen of FILE last is `file` as it was opened. backup_folder, lock, lost_mode and is_itself are -1, -1, -1
+ * and false, and the caller may set them. Returns false without memory. */
 bool saver_open(struct saver *saver, struct file *file);
 
 /* Forks the child that serves one save, from its BEGIN frame on `request`, which it answers on `answer`, to its end. Returns its
@@ -42,8 +49,8 @@ pid_t saver_start(struct saver *saver, int request, int answer);
 bool saver_finish(struct saver *saver);
 void saver_refuse(struct saver *saver);
 
-/* What came of the last save: 0 where it is on the disk, else an enum save_cause. */
-int saver_cause(const struct saver *saver);
+/* What came of the last save: CAUSE_NONE where it is on the disk. */
+enum cause saver_cause(const struct saver *saver);
 
 /* FILE as the last save left or found it; false where no save looked at it. */
 bool saver_stamp(const struct saver *saver, struct file_stamp *stamp, struct file_id *id);
@@ -51,5 +58,9 @@ bool saver_stamp(const struct saver *saver, struct file_stamp *stamp, struct fil
 /* FILE may have a part of its new text alone. A backup has the whole text: this name beside FILE, or BACKUP_NAME in the session's folder,
  * where it gives NULL. */
 bool saver_is_torn(const struct saver *saver, const char **name);
+
+/* Makes a new file of this name in an open folder, never over another, with the bytes of an open one and these permissions, and without an
+ * access list that the folder gives to new files. */
+enum cause make_file(int folder, const char *name, int source, mode_t mode);
 
 #endif

@@ -2,66 +2,52 @@
  * their cases are in tests/host/judge_save.c. */
 #include "save_judge.h"
 
-#include <errno.h>
-
 enum { SET_IDS = 06000, ALL_BITS = 07777, GROUP_BITS = 070, OTHERS_BITS = 07 };
 
-/* Why a new file must not replace a file that the user can write. The first reason counts, as messages tell only one. */
-static enum reason reason_for(const struct facts *file, nlink_t names, const struct facts *folder) {
+/* The first reason counts, as messages tell only one. */
+enum reason find_in_place(const struct facts *file, const struct file_stamp *stamp, const struct facts *folder) {
+    if (!stamp->is_there || !S_ISREG(stamp->found.st_mode) || !file->writable) return NO_REASON;
     if (!folder->writable || file->is_held_by_folder) return REASON_PROTECTED;
     if (file->is_mount) return REASON_MOUNTED;
-    if (names > 1) return REASON_LINKED;
-    if (file->has_access_list) return REASON_LISTED;
+    if (stamp->found.st_nlink > 1) return REASON_LINKED;
+    if (file->access_list == YES) return REASON_LISTED;
     if (file->has_label) return REASON_LABELLED;
     return folder->gives_access_lists ? REASON_GIVEN_LIST : NO_REASON;
 }
 
-enum reason find_in_place(const struct facts *file, const struct file_stamp *stamp, const struct facts *folder) {
-    if (!stamp->is_there || !S_ISREG(stamp->found.st_mode) || !file->writable) return NO_REASON;
-    return reason_for(file, stamp->found.st_nlink, folder);
-}
+static const struct {
+    const char *text, *harm;
+} reasons[] = {
+    [NO_REASON] = {"", ""},
+    [REASON_PROTECTED] = {"is in a folder where you cannot replace it", "it cannot be saved"},
+    [REASON_MOUNTED] = {"is mounted by itself", "it cannot be saved"},
+    [REASON_LINKED] = {"has other names (hard links)", "a save would separate it from them"},
+    [REASON_LISTED] = {"has an access list", "a save would remove the list"},
+    [REASON_LABELLED] = {"has a security label", "a save may change the label"},
+    [REASON_GIVEN_LIST] = {"is in a folder that gives new files an access list", "a save would give it one"},
+};
 
 const char *reason_text(enum reason reason) {
-    switch (reason) {
-    case REASON_PROTECTED: return "is in a folder where you cannot replace it";
-    case REASON_MOUNTED: return "is mounted by itself";
-    case REASON_LINKED: return "has other names (hard links)";
-    case REASON_LISTED: return "has an access list";
-    case REASON_LABELLED: return "has a security label";
-    case REASON_GIVEN_LIST: return "is in a folder that gives new files an access list";
-    case NO_REASON: break;
-    }
-    return "";
+    return reasons[reason].text;
 }
 
 const char *reason_harm(enum reason reason) {
-    switch (reason) {
-    case REASON_PROTECTED:
-    case REASON_MOUNTED: return "it cannot be saved";
-    case REASON_LINKED: return "a save would separate it from them";
-    case REASON_LISTED: return "a save would remove the list";
-    case REASON_LABELLED: return "a save may change the label";
-    case REASON_GIVEN_LIST: return "a save would give it one";
-    case NO_REASON: break;
-    }
-    return "";
+    return reasons[reason].harm;
 }
 
-mode_t mode_of_new(struct taken taken, mode_t old) {
+mode_t mode_of_new(mode_t old, bool has_owner, bool has_group) {
     mode_t mode = old & ALL_BITS;
-    bool has_group = taken.group && taken.is_plain;
-    if (taken.owner && has_group) return mode;
+    if (has_owner && has_group) return mode;
     mode &= ~(mode_t)SET_IDS;
     if (has_group) return mode;
     /* the group may have had fewer rights than the bits say, so it gets what all others have */
     return (mode & ~(mode_t)GROUP_BITS) | (mode & OTHERS_BITS) << 3;
 }
 
-enum stamp_verdict judge_stamp(const struct file_stamp *seen, const struct file_stamp *now, bool is_assumed_changed) {
-    if (!now->is_there) return STAMP_GONE;
-    if (!S_ISREG(now->found.st_mode) && !S_ISLNK(now->found.st_mode)) return STAMP_NOT_PLAIN;
-    if (!seen->is_there || is_assumed_changed) return STAMP_CHANGED;
-    return is_unchanged(&seen->found, &now->found) ? STAMP_SAME : STAMP_CHANGED;
+enum cause judge_stamp(const struct file_stamp *seen, const struct file_stamp *now) {
+    if (!now->is_there) return CAUSE_NONE;
+    if (!S_ISREG(now->found.st_mode) && !S_ISLNK(now->found.st_mode)) return CAUSE_NOT_PLAIN;
+    return seen->is_there && is_unchanged(&seen->found, &now->found) ? CAUSE_NONE : CAUSE_CHANGED;
 }
 
 bool is_same_file(const struct stat *one, const struct stat *other) {
@@ -87,20 +73,4 @@ bool is_unchanged(const struct stat *one, const struct stat *other) {
 
 bool is_taken_out(const struct file_stamp *seen, const struct file_stamp *out) {
     return seen->is_there && out->is_there && is_alike(&seen->found, &out->found);
-}
-
-int cause_of(int error) {
-    switch (error) {
-    case 0: return 0;
-    case ENOSPC:
-    case EDQUOT: return SAVE_NO_SPACE;
-    case EPERM:
-    case EACCES: return SAVE_NOT_PERMITTED;
-    case ENOENT:
-    case ENOTDIR: return SAVE_FOLDER_GONE;
-    case EROFS: return SAVE_READ_ONLY;
-    case EFBIG: return SAVE_TOO_LARGE;
-    case ENOMEM: return SAVE_OUT_OF_MEMORY;
-    default: return SAVE_OTHER;
-    }
 }

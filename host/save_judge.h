@@ -6,7 +6,6 @@
 #include <sys/stat.h>
 
 #include "file.h"
-#include "frames.h"
 
 /* Why saves overwrite FILE in place. */
 enum reason {
@@ -27,23 +26,14 @@ enum reason find_in_place(const struct facts *file, const struct file_stamp *sta
 const char *reason_text(enum reason reason);
 const char *reason_harm(enum reason reason);
 
-/* Whether a new file got the owner and the group of the file that it replaces; and whether the old file's mode says all of its
- * permissions: not if it has or may have an access list. */
-struct taken {
-    bool owner, group, is_plain;
-};
+/* The permissions of a new file in place of one with this mode, by whether it got the old one's owner, and its group with all that the mode
+ * says of it. An access list makes a mode say less. */
+mode_t mode_of_new(mode_t old, bool has_owner, bool has_group);
 
-/* The permissions of a new file in place of one with this mode. */
-mode_t mode_of_new(struct taken taken, mode_t old);
-
-/* What a look at FILE's name shows, compared with what was seen there last. */
-enum stamp_verdict { STAMP_SAME, STAMP_GONE, STAMP_CHANGED, STAMP_NOT_PLAIN };
-enum stamp_verdict judge_stamp(const struct file_stamp *seen, const struct file_stamp *now, bool is_assumed_changed);
+/* Whether a save may go on, by what is at FILE's name and what was seen there last. */
+enum cause judge_stamp(const struct file_stamp *seen, const struct file_stamp *now);
 
 /* Whether what an exchange took from FILE's place is what was seen there. The time of change is not compared, since a rename changes it. */
 bool is_taken_out(const struct file_stamp *seen, const struct file_stamp *out);
-
-/* The cause of a failed call, an enum save_cause; 0 for none. */
-int cause_of(int error);
 
 #endif

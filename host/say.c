@@ -23,7 +23,7 @@ struct text {
 };
 
 static struct text *texts;
-bool is_telling_limited;
+bool is_telling_limited, is_output_closed;
 int output_fault;
 
 /* Writes all of a text, for as long as it takes. Returns false at a fault. */
@@ -41,7 +41,8 @@ static bool put_whole(int file, const char *text, size_t length) {
 }
 
 void put_text(int file, const char *text) {
-    if (is_telling_limited) write_within(file, text, strlen(text), end_signal ? TELLING_BY_SIGNAL_MS : TELLING_MS, true);
+    if (file == STDOUT_FILENO && is_output_closed) output_fault = EBADF;
+    else if (is_telling_limited) write_within(file, text, strlen(text), end_signal ? TELLING_BY_SIGNAL_MS : TELLING_MS, true);
     else if (!put_whole(file, text, strlen(text)) && file == STDOUT_FILENO) output_fault = errno;
 }
 
@@ -93,29 +94,20 @@ void warn(const char *format, ...) {
     va_end(values);
 }
 
-/* The bytes of the character in UTF-8 that a text begins with, and the character; 0 where it begins with none. */
+/* The bytes of the character in UTF-8 that a text begins with, and the character; 0 where it begins with none. A character in more bytes than
+ * it needs, half of a pair of UTF-16 and one beyond U+10FFFF are none. */
 static size_t character_at(const char *text, size_t length, uint32_t *character) {
-    static const struct {
-        unsigned char first, last, low, high;
-    } leads[] = {{0xC2, 0xDF, 0x80, 0xBF}, {0xE0, 0xE0, 0xA0, 0xBF}, {0xE1, 0xEC, 0x80, 0xBF}, {0xED, 0xED, 0x80, 0x9F},
-                 {0xEE, 0xEF, 0x80, 0xBF}, {0xF0, 0xF0, 0x90, 0xBF}, {0xF1, 0xF3, 0x80, 0xBF}, {0xF4, 0xF4, 0x80, 0x8F}};
-    const unsigned char *bytes = (const unsigned char *)text;
-    if (length == 0) return 0;
-    *character = bytes[0];
-    if (bytes[0] < 0x80) return 1;
-    size_t count = bytes[0] < 0xE0 ? 2 : bytes[0] < 0xF0 ? 3 : 4;
-    if (length < count) return 0;
-    for (size_t i = 0; i < sizeof leads / sizeof *leads; i++) {
-        if (bytes[0] < leads[i].first || bytes[0] > leads[i].last) continue;
-        if (bytes[1] < leads[i].low || bytes[1] > leads[i].high) return 0;
-        *character = bytes[0] & (0xFFu >> (count + 1));
-        for (size_t j = 1; j < count; j++) {
-            if ((bytes[j] & 0xC0) != 0x80) return 0;
-            *character = *character << 6 | (bytes[j] & 0x3F);
-        }
-        return count;
+    static const uint32_t least[] = {0, 0, 0x80, 0x800, 0x10000};
+    unsigned char first = length > 0 ? (unsigned char)text[0] : 0;
+    size_t count = first < 0x80 ? 1 : first < 0xC0 ? 0 : first < 0xE0 ? 2 : first < 0xF0 ? 3 : first < 0xF8 ? 4 : 0;
+    if (length == 0 || count == 0 || length < count) return 0;
+    uint32_t c = count == 1 ? first : first & (0xFFu >> (count + 1));
+    for (size_t i = 1; i < count; i++) {
+        if (((unsigned char)text[i] & 0xC0) != 0x80) return 0;
+        c = c << 6 | ((unsigned char)text[i] & 0x3F);
     }
-    return 0;
+    *character = c;
+    return c < least[count] || (c >= 0xD800 && c <= 0xDFFF) || c > 0x10FFFF ? 0 : count;
 }
 
 size_t utf8_length(const char *text, size_t length) {
@@ -149,53 +141,29 @@ static bool is_plain(uint32_t c) {
     return (c >= '0' && c <= '9') || (c >= 'A' && c <= 'Z') || (c >= 'a' && c <= 'z') || (c != 0 && c < 0x80 && strchr(marks, (int)c));
 }
 
-enum style { STYLE_BARE, STYLE_QUOTED, STYLE_NUMBERED };
-
-/* How a name has to be written, so that a shell reads it back and no terminal obeys it. */
-static enum style style_of(const char *name, size_t length) {
-    enum style style = length > 0 ? STYLE_BARE : STYLE_QUOTED;
-    uint32_t c;
+char *shown(const char *name) {
+    size_t length = strlen(name);
+    bool is_numbered = false, is_quoted = length == 0;
+    uint32_t c = 0;
+    for (size_t i = 0, count; i < length && !is_numbered; i += count) {
+        count = character_at(name + i, length - i, &c);
+        is_numbered = count == 0 || is_hidden(c);
+        is_quoted = is_quoted || is_numbered || !is_plain(c);
+    }
+    /* a byte takes four letters at most */
+    char *text = room_for(4 * length + 4), *at = stpcpy(text, is_numbered ? "$'" : is_quoted ? "'" : "");
     for (size_t i = 0, count; i < length; i += count) {
         count = character_at(name + i, length - i, &c);
-        if (count == 0 || is_hidden(c)) return STYLE_NUMBERED;
-        if (!is_plain(c)) style = STYLE_QUOTED;
+        bool is_number = is_numbered && (count == 0 || is_hidden(c) || c == '\'' || c == '\\');
+        if (count == 0) count = 1;
+        for (size_t j = i; j < i + count; j++) {
+            unsigned byte = (unsigned char)name[j];
+            if (is_number) at += sprintf(at, "\\%03o", byte);
+            else if (byte == '\'') at = stpcpy(at, "'\\''");
+            else *at++ = name[j];
+        }
     }
-    return style;
-}
-
-/* Writes bytes as a shell's $'..' has them, a backslash and three octal digits each, and returns the end. */
-static char *put_numbers(char *at, const char *bytes, size_t count) {
-    for (size_t i = 0; i < count; i++) {
-        unsigned byte = (unsigned char)bytes[i];
-        *at++ = '\\';
-        *at++ = (char)('0' + (byte >> 6));
-        *at++ = (char)('0' + (byte >> 3 & 7));
-        *at++ = (char)('0' + (byte & 7));
-    }
-    return at;
-}
-
-/* Writes one character of a name, or one byte that belongs to no valid character. */
-static char *put_character(char *at, enum style style, const char *name, size_t count, uint32_t c) {
-    bool is_number = count == 0 || is_hidden(c) || c == '\'' || c == '\\';
-    if (style == STYLE_NUMBERED && is_number) return put_numbers(at, name, count == 0 ? 1 : count);
-    if (style == STYLE_QUOTED && c == '\'') return stpcpy(at, "'\\''");
-    memcpy(at, name, count);
-    return at + count;
-}
-
-char *shown(const char *name) {
-    static const char *const before[] = {"", "'", "$'"};
-    size_t length = strlen(name);
-    enum style style = style_of(name, length);
-    /* a byte takes four letters at most */
-    char *text = room_for(4 * length + 4), *at = stpcpy(text, before[style]);
-    uint32_t c = 0;
-    for (size_t i = 0, count; i < length; i += count > 0 ? count : 1) {
-        count = character_at(name + i, length - i, &c);
-        at = put_character(at, style, name + i, count, c);
-    }
-    if (style != STYLE_BARE) *at++ = '\'';
+    if (is_quoted) *at++ = '\'';
     *at = 0;
     return text;
 }

@@ -9,6 +9,10 @@
  * ends the host. */
 extern bool is_telling_limited;
 
+/* Standard output was closed at the start; the errno of the last failed write to it, 0 if none failed. */
+extern bool is_output_closed;
+extern int output_fault;
+
 /* Formats a text as printf does. The text is never freed, so this is for messages that are written once. Without memory it ends the
  * host with status 1; so it is called only before the program starts and after it has ended. */
 char *text_of(const char *format, ...) __attribute__((format(printf, 1, 2), returns_nonnull));
@@ -30,8 +34,5 @@ void warn(const char *format, ...) __attribute__((format(printf, 1, 2)));
 
 /* Writes a text as it is to a file. */
 void put_text(int file, const char *text);
-
-/* The errno of the last failed write to standard output; 0 if none failed. */
-extern int output_fault;
 
 #endif

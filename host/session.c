@@ -1,5 +1,4 @@
-/* A session: how it is created, locked, continued and removed. parts.c and copying.c write the files in its folder. session.h and parts.h
- * say what each call promises. */
+/* A session: how it is created, kept, locked, continued and removed. session.h says what each call promises. */
 #include "session.h"
 
 #include <errno.h>
@@ -11,13 +10,18 @@
 #include <sys/utsname.h>
 #include <unistd.h>
 
-#include "parts.h"
+#include "file.h"
+#include "save.h"
+#include "util.h"
 
-/* NAME_TRIES: how many names to try for a session. LOCK_TRIES: how often to try a lock, for a second in all. */
-enum { NAME_TRIES = 16, NAME_LETTERS = 8, LOCK_TRIES = 20, LOCK_PAUSE_MS = 50 };
+/* NAME_TRIES: how many names to try for a session. LOCK_TRIES: how often to try a lock, for a second in all. COPIED_AT_ONCE: the largest
+ * text, in bytes, that is copied before the program reads it. CALM: a larger FILE that nobody has written for so many seconds is copied
+ * after the first painting. */
+enum { NAME_TRIES = 16, NAME_LETTERS = 8, LOCK_TRIES = 20, LOCK_PAUSE_MS = 50, FOLDER_MODE = 0700, COPIED_AT_ONCE = 1 << 20, CALM = 2 };
 
 void session_clear(struct session *session) {
-    *session = (struct session){.parent = -1, .folder = -1, .lock = -1, .text = -1, .journal = -1, .mirror = -1, .source = -1, .child = -1, .report = -1};
+    *session = (struct session){.parent = -1, .folder = -1, .text = -1, .journal = -1, .source = -1};
+    about_clear(&session->about);
 }
 
 bool session_is_none(const struct session *session) {
@@ -25,13 +29,9 @@ bool session_is_none(const struct session *session) {
 }
 
 void session_close(struct session *session) {
-    for (enum part part = 0; part < PARTS; part++) forget_part(session, part);
-    close_one(&session->report);
     close_one(&session->source);
-    close_one(&session->mirror);
     close_one(&session->journal);
     close_one(&session->text);
-    close_one(&session->lock);
     close_one(&session->folder);
     close_one(&session->parent);
     session_clear(session);
@@ -47,14 +47,10 @@ void session_move(struct session *to, struct session *from) {
 
 /* Reads the first word of a file. On failure `word` stays as it is. */
 static void read_word(const char *path, char *word, size_t room) {
-    int file = open(path, O_RDONLY | O_CLOEXEC);
-    char line[512];
-    ssize_t length = file < 0 ? -1 : read(file, line, sizeof line - 1);
-    if (file >= 0) close(file);
-    if (length <= 0) return;
-    line[length] = '\0';
+    char *line = read_short(AT_FDCWD, path, NULL);
+    if (!line) return;
     line[strcspn(line, " \t\r\n")] = '\0';
-    if (line[0]) snprintf(word, room, "%.*s", (int)room - 1, line);
+    if (line[0]) snprintf(word, room, "%s", line);
 }
 
 const struct process *this_process(void) {
@@ -76,10 +72,10 @@ void time_words(const struct timespec *time, char words[32]) {
 
 const char *versions_look(const char *version, const char *const *files, size_t count, char words[MOST_WORDS]) {
     struct stat found;
-    size_t length = (size_t)snprintf(words, MOST_WORDS, "bidi-edit %s\n", version);
+    size_t length = (size_t)snprintf(words, MOST_WORDS, "bidi-edit %s", version);
     for (size_t at = 0; at < count; at++) {
         if (stat(files[at], &found) != 0) return files[at];
-        length += (size_t)snprintf(words + length, MOST_WORDS - length, "%lld %lld %lld\n", (long long)found.st_size,
+        length += (size_t)snprintf(words + length, MOST_WORDS - length, " %lld %lld %lld", (long long)found.st_size,
                                    (long long)found.st_mtim.tv_sec, (long long)found.st_mtim.tv_nsec);
         errno = ENAMETOOLONG;
         if (length >= MOST_WORDS) return files[at];
@@ -87,36 +83,102 @@ const char *versions_look(const char *version, const char *const *files, size_t 
     return NULL;
 }
 
-/* ---- the folder, and its locks */
+/* ---- what is written in the session's folder */
+
+/* Creates or replaces a file by way of a draft. Synced, unless the session is hasty. */
+static int put_file(const struct session *session, const char *name, const void *bytes, size_t size) {
+    int folder = session->folder;
+    int file = part_open(folder, ABOUT_DRAFT_NAME, O_WRONLY | O_CREAT | O_TRUNC);
+    if (file < 0) return errno;
+    int error = write_bytes(file, bytes, size);
+    if (!error && !session->is_hasty) error = sync_file(file);
+    close(file);
+    if (!error && renameat(folder, ABOUT_DRAFT_NAME, folder, name) != 0) error = errno;
+    if (error) unlinkat(folder, ABOUT_DRAFT_NAME, 0);
+    return error;
+}
+
+enum cause session_put(const struct session *session, const char *name, const void *bytes, size_t size) {
+    return cause_of(put_file(session, name, bytes, size));
+}
+
+/* Writes the facts over the old ones, in the blocks that these have, for a disk without room. Their last line tells if this is cut off. */
+static int overwrite_about(const struct session *session, const char *words, size_t size) {
+    struct stat found;
+    int error = ENOSPC, file = part_open(session->folder, ABOUT_NAME, O_WRONLY);
+    if (file >= 0 && fstat(file, &found) == 0 && (uint64_t)found.st_blocks * 512 >= size) error = write_bytes(file, words, size);
+    if (!error && ftruncate(file, (off_t)size) != 0) error = errno;
+    close_one(&file);
+    return error;
+}
+
+/* Writes the session's facts: the old ones or the new ones are there at every moment. */
+static int put_about(struct session *session) {
+    static char words[MOST_ABOUT];
+    size_t size = about_write(&session->about, words, sizeof words);
+    int error = size > 0 ? put_file(session, ABOUT_NAME, words, size) : ENAMETOOLONG;
+    if (error == ENOSPC || error == EDQUOT) error = overwrite_about(session, words, size);
+    if (error) return error;
+    session->is_about_due = session->is_hasty;
+    session->about.is_old = false;
+    return 0;
+}
+
+bool session_has_mark(const struct session *session, enum mark mark) {
+    return session->about.marks & mark;
+}
+
+enum cause session_mark(struct session *session, enum mark mark) {
+    session->about.marks |= mark;
+    return cause_of(put_about(session));
+}
+
+/* ---- the folder, and its lock */
 
 /* A name by the time, so that sessions sort by age, with random letters, so that two starts in one second differ. */
 static bool make_session_name(char name[64]) {
     static const char alphabet[] = "abcdefghijklmnopqrstuvwxyz234567";
     struct timespec now;
     struct tm parts;
-    if (clock_gettime(CLOCK_REALTIME, &now) != 0 || !localtime_r(&now.tv_sec, &parts)) return false;
+    if (clock_gettime(CLOCK_REALTIME, &now) != 0 || !gmtime_r(&now.tv_sec, &parts)) return false;
     size_t length = strftime(name, 32, "%Y%m%d%H%M%S.", &parts);
     return make_letters(name + length, NAME_LETTERS, alphabet) && kind_of_name(name) == NAME_SESSION;
 }
 
-bool session_at(struct session *session, const struct sessions *sessions, const char *name) {
+/* Reads the facts, in today's form or in that of version 0.4.0. */
+static void read_about(struct session *session) {
+    size_t size;
+    char *bytes = read_short(session->folder, ABOUT_NAME, &size);
+    if (bytes) about_read(&session->about, bytes, size);
+    else old_about(session->folder, &session->about);
+}
+
+/* Opens the folder of this name. */
+static bool open_at(struct session *session, const struct sessions *sessions, const char *name) {
     session_clear(session);
     if (!put_path(session->path, "%s/%s", sessions->path, name)) return false;
     session->user = sessions->user;
     session->folder = openat(sessions->folder, name, O_RDONLY | O_DIRECTORY | O_NOFOLLOW | O_CLOEXEC);
-    session->parent = copy_descriptor(sessions->folder);
-    if (session->folder >= 0 && session->parent >= 0) return true;
+    if (session->folder >= 0) session->parent = fcntl(sessions->folder, F_DUPFD_CLOEXEC, 3);
+    if (session->parent >= 0) return true;
     session_close(session);
     return false;
+}
+
+bool session_at(struct session *session, const struct sessions *sessions, const char *name) {
+    if (!open_at(session, sessions, name)) return false;
+    read_about(session);
+    return true;
 }
 
 /* Creates the session's folder, under a name that no other session has. */
 static int make_folder(struct session *session, const struct sessions *sessions) {
     char name[64];
+    session_clear(session);
     for (int tries = 0; tries < NAME_TRIES; tries++) {
         if (!make_session_name(name)) return EIO;
         if (mkdirat(sessions->folder, name, FOLDER_MODE) == 0) {
-            if (session_at(session, sessions, name)) return 0;
+            if (open_at(session, sessions, name)) return 0;
             unlinkat(sessions->folder, name, AT_REMOVEDIR);
             return ENOENT;
         }
@@ -125,204 +187,293 @@ static int make_folder(struct session *session, const struct sessions *sessions)
     return EEXIST;
 }
 
-/* Locks the session's folder, whose lock no rename or removal of a file can undo, and its file `lock`, which older versions of the
- * editor look at. Where folders cannot be locked, as on NFS, only the file is. */
-static int lock_both(struct session *session) {
-    int of_folder = lock_file(session->folder, LOCK_TRIES, LOCK_PAUSE_MS);
-    if (of_folder == EWOULDBLOCK) return of_folder;
-    session->lock = part_open(session->folder, part_name(PART_LOCK), O_RDWR | O_CREAT);
-    if (session->lock < 0) return errno;
-    int of_file = lock_file(session->lock, LOCK_TRIES, LOCK_PAUSE_MS);
-    session->is_locked = of_file == 0 || (of_file != EWOULDBLOCK && of_folder == 0);
-    return session->is_locked ? 0 : of_file;
-}
-
-/* Whether another process has locked an open file. */
-static bool is_locked_by_other(int file) {
-    if (flock(file, LOCK_SH | LOCK_NB) != 0) return errno == EWOULDBLOCK;
-    flock(file, LOCK_UN);
-    return false;
-}
-
-bool session_is_live(const struct session *session) {
-    if (session->is_locked) return false;
-    if (is_locked_by_other(session->folder)) return true;
-    int lock = part_open(session->folder, part_name(PART_LOCK), O_RDONLY);
-    if (lock < 0) return errno != ENOENT;
-    bool is_live = flock(lock, LOCK_SH | LOCK_NB) != 0;
-    close(lock);
-    return is_live;
-}
-
-/* Makes a session's folder with its lock and an empty journal. */
-static int make_session(struct session *session, const struct sessions *sessions) {
-    session_clear(session);
-    int error = make_folder(session, sessions);
-    if (error) return error;
-    error = lock_both(session);
-    if (!error) session->journal = part_open(session->folder, part_name(PART_JOURNAL), O_RDWR | O_CREAT | O_EXCL | O_APPEND);
-    if (!error && session->journal < 0) error = errno;
-    if (error) {
-        session_remove(session);
-        session_close(session);
-    }
+/* Locks the session's folder, whose lock no rename or removal of a file can undo. Where folders cannot be locked, as on NFS, the journal
+ * is. */
+static int lock(struct session *session) {
+    int error = lock_file(session->folder, LOCK_TRIES, LOCK_PAUSE_MS);
+    if (error && error != EWOULDBLOCK && session->journal >= 0) error = lock_file(session->journal, LOCK_TRIES, LOCK_PAUSE_MS);
+    session->is_locked = error == 0;
     return error;
 }
 
-/* Opens the text and the journal of a locked session. Remembers each guarded part (is_guarded), so that session_mind writes it again if
- * something removes it. */
-static void open_parts(struct session *session) {
-    session->text = session_open(session, PART_TEXT);
-    session->has_text = session->text >= 0;
-    session->journal = part_open(session->folder, part_name(PART_JOURNAL), O_RDWR | O_CREAT | O_APPEND);
-    if (session->journal < 0) session->journal = session_open(session, PART_JOURNAL);
-    for (enum part part = 0; part < PARTS; part++) {
-        char *words = is_guarded(part) ? session_note(session, part) : NULL;
-        if (words && keep_part(session, part, words, strlen(words)) == 0) session->parts[part].is_written = true;
-        free(words);
-    }
-    session->is_filled = session->has_text && session->parts[PART_PATH].is_kept;
-}
-
-enum lock_result session_lock(struct session *session, enum part part) {
+enum lock_result session_lock(struct session *session) {
     if (!session_is_there(session)) return LOCK_GONE;
-    int error = lock_both(session);
+    session->journal = part_open(session->folder, JOURNAL_NAME, O_RDWR | O_APPEND);
+    int error = lock(session);
+    if (!error && session->about.is_old && old_is_locked(session->folder)) error = EWOULDBLOCK;
     /* it may have been removed before it was locked */
-    bool is_gone = !error && (!session_is_there(session) || !session_has(session, part));
+    bool is_gone = !error && !session_is_there(session);
     if (!error && !is_gone) {
-        open_parts(session);
+        read_about(session);
+        session->text = session_open(session, TEXT_NAME);
+        if (session->journal < 0) session->journal = session_open(session, JOURNAL_NAME);
         return LOCK_TAKEN;
     }
     session->is_locked = false;
-    close_one(&session->lock);
+    close_one(&session->journal);
     flock(session->folder, LOCK_UN);
-    session->error = error;
+    session->cause = cause_of(error);
     if (is_gone) return LOCK_GONE;
     return error == EWOULDBLOCK ? LOCK_HELD : LOCK_FAILED;
 }
 
-/* ---- a new session */
+/* ---- the copy of FILE's text */
 
-/* Remembers the short parts of a new session. session_fill has them written, the path last. */
-static int keep_notes(struct session *session, const struct opening *opening) {
-    char words[MOST_WORDS];
-    const struct target *target = opening->target;
-    int error = keep_part(session, PART_PATH, target->path, strlen(target->path));
-    words_of_begin(&opening->begin, words);
-    if (!error) error = keep_part(session, PART_BEGIN, words, strlen(words));
-    words_of_process(this_process(), words);
-    if (!error) error = keep_part(session, PART_PROCESS, words, strlen(words));
-    if (!error) error = keep_part(session, PART_VERSIONS, opening->versions, strlen(opening->versions));
-    if (!error && !opening->is_joined) error = keep_part(session, PART_UNJOINED, "", 0);
-    if (!error && opening->is_secret) error = keep_part(session, PART_SECRET, "", 0);
-    snprintf(words, sizeof words, "%03o\n", (unsigned)opening->mode);
-    if (!error && opening->mode >= 0) error = keep_part(session, PART_MODE, words, strlen(words));
-    words_of_file_id(&target->id, words);
-    if (!error && target->is_there) error = keep_part(session, PART_FILE, words, strlen(words));
+/* A text that is copied and summed up. */
+struct copy {
+    int to, error;
+    struct sum sum;
+};
+
+static void take_piece(void *context, const char *bytes, size_t size) {
+    struct copy *copy = context;
+    if (!copy->error) copy->error = write_bytes(copy->to, bytes, size);
+    sum_more(&copy->sum, bytes, size);
+}
+
+/* Whether a file was written a moment ago, so that it may change while it is read. */
+static bool is_being_written(const struct stat *look) {
+    struct timespec today;
+    return clock_gettime(CLOCK_REALTIME, &today) == 0 && today.tv_sec - look->st_mtim.tv_sec <= CALM;
+}
+
+/* Copies an open file over the session's text. A text without space gives up what it took. */
+static int copy_text(struct session *session, int file) {
+    struct copy copy = {.to = session->text};
+    sum_begin(&copy.sum);
+    int error = lseek(session->text, 0, SEEK_SET) == 0 ? read_pieces(file, 0, take_piece, &copy) : errno;
+    if (!error) error = copy.error;
+    session->about.has_text = error == 0;
+    session->about.text = copy.sum;
+    session->is_text_due = session->is_about_due = true;
+    if (error && ftruncate(session->text, 0) != 0) return error;
     return error;
 }
 
-/* Writes a part that matters only while the session is locked, so it is not synced. If this fails, other starts find the session only after
- * all its files are written. */
-static void announce(const struct session *session, enum part part, const char *words) {
-    int file = part_open(session->folder, part_name(part), O_WRONLY | O_CREAT | O_EXCL);
-    if (file < 0) return;
-    write_bytes(file, words, strlen(words));
-    close(file);
+/* Whether FILE is still as it was before the program read it. If a save has replaced FILE, this looks at the old file, which is
+ * unchanged. */
+static bool is_as_read(const struct session *session) {
+    struct stat found;
+    return fstat(session->source, &found) == 0 && has_same_text(&found, &session->look);
 }
 
-int session_begin(struct session *session, const struct sessions *sessions, const struct opening *opening) {
-    int error = make_session(session, sessions);
-    if (error) return error;
-    error = keep_notes(session, opening);
-    if (!error) error = choose_source(session, opening->file);
-    if (error) {
-        session_remove(session);
-        session_close(session);
-        return error;
-    }
-    announce(session, PART_PROCESS, session->parts[PART_PROCESS].bytes);
-    announce(session, PART_OPENED, opening->target->path);
-    return 0;
+/* Copies the text that the program has opened, if there is no copy yet. */
+static int copy_late(struct session *session) {
+    if (session->about.has_text || session->is_changed) return 0;
+    if (session->text < 0) session->text = part_open(session->folder, TEXT_NAME, O_RDWR | O_CREAT | O_EXCL);
+    if (session->text < 0) return errno;
+    if (session->source < 0) return EIO;
+    session->is_changed = session->is_source_file && !is_as_read(session);
+    int error = session->is_changed ? 0 : copy_text(session, session->source);
+    if (!session->is_changed && !error) session->is_changed = session->is_source_file && !is_as_read(session);
+    if (session->is_changed) session->about.has_text = false;
+    /* the program has read the source by now, and an old FILE that a save has replaced may go */
+    if (!error) close_one(&session->source);
+    return error;
 }
 
-int session_renew(struct session *renewed, const struct sessions *sessions, const struct session *old, const char *versions) {
-    static const enum part copied[] = {PART_PATH, PART_BEGIN, PART_MODE, PART_FILE, PART_BESIDE, PART_UNJOINED, PART_SECRET};
-    char words[MOST_WORDS];
-    int error = make_session(renewed, sessions);
-    if (error) return error;
-    for (size_t at = 0; at < sizeof copied / sizeof *copied && !error; at++) {
-        char *note = session_note(old, copied[at]);
-        if (note) error = keep_part(renewed, copied[at], note, strlen(note));
-        free(note);
+/* Chooses what the program opens. Copies FILE first if that is quick, or if another program may be writing FILE. */
+static int choose_source(struct session *session, int file) {
+    struct sum none;
+    sum_begin(&none);
+    session->text = part_open(session->folder, TEXT_NAME, O_RDWR | O_CREAT | O_EXCL);
+    if (session->text < 0) session->cause = cause_of(errno);
+    if (file < 0) {
+        session->about.has_text = session->text >= 0;
+        session->about.text = none;
+        session->is_text_due = true;
+        return 0;
     }
-    words_of_process(this_process(), words);
-    if (!error) error = keep_part(renewed, PART_PROCESS, words, strlen(words));
-    if (!error) error = keep_part(renewed, PART_VERSIONS, versions, strlen(versions));
-    if (!error) error = keep_part(renewed, PART_UNSAVED, "", 0);
-    int snapshot = error ? -1 : session_open(old, PART_SNAPSHOT);
-    if (!error) error = snapshot < 0 || !renewed->parts[PART_PATH].is_kept ? ENOENT : 0;
-    if (!error) error = choose_source(renewed, snapshot);
-    if (!error && renewed->is_waiting) error = renewed->error;
-    if (!error) error = write_session(renewed);
-    if (snapshot >= 0) close(snapshot);
-    if (error) {
+    if (fstat(file, &session->look) != 0) return errno;
+    off_t size = session->look.st_size;
+    bool is_early = size <= COPIED_AT_ONCE || (is_being_written(&session->look) && size <= LARGEST_TEXT);
+    if (session->text >= 0 && is_early) session->cause = cause_of(copy_text(session, file));
+    session->is_source_file = !session->about.has_text;
+    session->source = fcntl(session->is_source_file ? file : session->text, F_DUPFD_CLOEXEC, 3);
+    return session->source >= 0 ? 0 : errno;
+}
+
+/* ---- a new session */
+
+enum cause session_begin(struct session *session, const struct sessions *sessions, const struct about *about, int file) {
+    int error = make_folder(session, sessions);
+    if (error) return cause_of(error);
+    session->is_hasty = session->is_name_due = session->is_about_due = true;
+    session->about = *about;
+    session->journal = part_open(session->folder, JOURNAL_NAME, O_RDWR | O_CREAT | O_EXCL | O_APPEND);
+    error = session->journal < 0 ? errno : lock(session);
+    if (!error) error = choose_source(session, file);
+    enum cause cause = cause_of(error ? error : put_about(session));
+    session->is_hasty = false;
+    /* without room for its facts it waits for that */
+    if (!error && cause) session->cause = cause;
+    if (!error) return CAUSE_NONE;
+    session_remove(session);
+    session_close(session);
+    return cause;
+}
+
+enum cause session_renew(struct session *renewed, const struct sessions *sessions, const struct session *old, const char *versions,
+                         const struct sum *known) {
+    struct about about = old->about;
+    int snapshot = session_open(old, SNAPSHOT_NAME);
+    if (snapshot < 0) return CAUSE_FOLDER_GONE;
+    snprintf(about.versions, sizeof about.versions, "%s", versions);
+    about.process = *this_process();
+    about.has_process = true;
+    about.has_text = about.is_old = about.is_damaged = false;
+    about.marks = (about.marks & (MARK_UNJOINED | MARK_SECRET)) | MARK_UNSAVED;
+    about.has_known = known;
+    if (known) about.known = *known;
+    sum_begin(&about.journal);
+    enum cause cause = session_begin(renewed, sessions, &about, snapshot);
+    close(snapshot);
+    if (!cause && !session_settle(renewed, false)) cause = renewed->cause ? renewed->cause : CAUSE_OTHER;
+    if (cause && !session_is_none(renewed)) {
         session_remove(renewed);
         session_close(renewed);
     }
+    return cause;
+}
+
+/* ---- a session that runs */
+
+/* Whether a name in the session's folder leads to an open file. */
+static bool is_named(const struct session *session, const char *name, int file) {
+    struct stat named, open;
+    return fstatat(session->folder, name, &named, AT_SYMLINK_NOFOLLOW) == 0 && fstat(file, &open) == 0 && is_same_file(&named, &open);
+}
+
+/* Whether something has removed the session or one of its files. */
+static bool has_lost(const struct session *session) {
+    bool has_text = session->text < 0 || is_named(session, TEXT_NAME, session->text);
+    bool has_about = session->is_about_due || session_has(session, ABOUT_NAME);
+    return !session_is_there(session) || !has_text || !has_about || !is_named(session, JOURNAL_NAME, session->journal);
+}
+
+/* Syncs the journal if it has changed, and sums up what is new. A program whose text is saved has emptied it. */
+static int sync_journal(struct session *session) {
+    struct sum *sum = &session->about.journal;
+    struct stat found;
+    if (fstat(session->journal, &found) != 0) return errno;
+    session->is_journal_due = (uint64_t)found.st_size != sum->size;
+    if (!session->is_journal_due) return 0;
+    struct sum next = *sum;
+    if ((uint64_t)found.st_size < next.size) sum_begin(&next);
+    int error = sum_rest(session->journal, &next);
+    if (!error && !session->is_hasty) error = sync_file(session->journal);
+    if (error) return error;
+    *sum = next;
+    session->is_about_due = true;
+    return 0;
+}
+
+/* Does one step of what is due, or all of them if nothing is synced. Returns 0 or the fault. */
+static int go_on(struct session *session) {
+    int error = copy_late(session);
+    if (!error && session->is_text_due && session->about.has_text && !session->is_hasty) {
+        error = sync_file(session->text);
+        session->is_text_due = error != 0;
+        return error;
+    }
+    if (!error) error = sync_journal(session);
+    if (error || (session->is_journal_due && !session->is_hasty)) return error;
+    if (session->is_about_due) return put_about(session);
+    if (!session->is_name_due || session->is_hasty) return 0;
+    error = sync_file(session->folder);
+    if (!error) error = sync_file(session->parent);
+    session->is_name_due = error != 0;
     return error;
+}
+
+bool session_is_due(const struct session *session) {
+    bool is_text_due = session->is_text_due && session->about.has_text;
+    return !session->cause && (is_text_due || session->is_journal_due || session->is_about_due || session->is_name_due);
+}
+
+enum keeping session_mind(struct session *session) {
+    if (has_lost(session)) return KEEPS_NOWHERE;
+    session->cause = cause_of(go_on(session));
+    if (session->is_changed) return KEEPS_NOTHING;
+    return session->cause || !session->about.has_text ? KEEPS_NOT_YET : KEEPS;
+}
+
+bool session_settle(struct session *session, bool is_hasty) {
+    session->is_hasty = is_hasty;
+    /* the facts may have no room; what a recovery needs is there all the same */
+    do session_mind(session);
+    while (!is_hasty && session_is_due(session) && !has_lost(session));
+    return !has_lost(session) && session->about.has_text && session_has(session, ABOUT_NAME);
+}
+
+void session_note_file(struct session *session, const struct target *target) {
+    struct about *about = &session->about;
+    bool is_new = target->is_there && !(about->has_id && is_surely_same_id(&about->id, &target->id) && is_same_id(&about->id, &target->id));
+    bool has_moved = !about->beside[0] && strcmp(about->path, target->path) != 0;
+    if (is_new) {
+        about->id = target->id;
+        about->has_id = true;
+    }
+    if (has_moved) put_path(about->path, "%s", target->path);
+    if (is_new || has_moved) session->is_about_due = true;
+}
+
+void session_note_saved(struct session *session) {
+    off_t size = session_journal_size(session);
+    session->about.saved = size > 0 ? (uint64_t)size : 0;
+    session->is_about_due = true;
 }
 
 /* ---- a session that goes on */
 
-int session_resume(struct session *session, unsigned rows, unsigned cols) {
+enum cause session_resume(struct session *session, unsigned rows, unsigned cols) {
     char words[64];
     struct stat found;
     snprintf(words, sizeof words, "\x13\x1b[8;%u;%ut", rows, cols);
-    if (session->journal < 0 || fstat(session->journal, &found) != 0) return ENOENT;
+    if (session->journal < 0 || fstat(session->journal, &found) != 0) return CAUSE_FOLDER_GONE;
     int error = write_bytes(session->journal, words, strlen(words));
     /* takes back what was written; the first fault is the one to report */
-    if (error && ftruncate(session->journal, found.st_size) != 0) errno = 0;
-    return error;
+    if (error && ftruncate(session->journal, found.st_size) != 0) return cause_of(error);
+    return cause_of(error);
 }
 
-int session_go_on(struct session *session, const char *beside, bool is_of_path) {
-    static const enum part over[] = {PART_DROPPED, PART_SNAPSHOT, PART_CUT, PART_PLACE};
-    char words[MOST_WORDS];
-    words_of_process(this_process(), words);
-    int error = session_put(session, PART_PROCESS, words, strlen(words));
-    if (!error && beside) error = session_put(session, PART_BESIDE, beside, strlen(beside));
-    if (!error && !beside && is_of_path) error = session_erase(session, PART_BESIDE);
-    for (size_t at = 0; at < sizeof over / sizeof *over && !error; at++) error = session_erase(session, over[at]);
-    return error;
+enum cause session_go_on(struct session *session, const char *beside, bool is_of_path) {
+    struct about before = session->about, *about = &session->about;
+    about->process = *this_process();
+    about->has_process = true;
+    about->is_damaged = false;
+    about->marks &= ~(unsigned)(MARK_DROPPED | MARK_CUT | MARK_IN_PLACE);
+    if (beside || is_of_path) put_path(about->beside, "%s", beside ? beside : "");
+    /* the sums of a session of version 0.4.0, and of one that has changed */
+    if (session->text >= 0) about->has_text = sum_file(session->text, &about->text);
+    if (session->journal >= 0 && !sum_file(session->journal, &about->journal)) sum_begin(&about->journal);
+    enum cause cause = cause_of(put_about(session));
+    if (!cause && unlinkat(session->folder, SNAPSHOT_NAME, 0) != 0 && errno != ENOENT) cause = cause_of(errno);
+    if (cause) *about = before;
+    return cause;
 }
 
 /* ---- the end */
 
-void remove_folder(const struct session *session, const char *name) {
+void session_erase(const struct session *session, const char *name) {
     const char *part;
-    /* without its path nobody can recover it, whatever files remain; folders in it do remain */
-    unlinkat(session->folder, part_name(PART_PATH), 0);
     DIR *entries = open_entries(session->folder);
     while (entries && (part = next_entry(entries))) unlinkat(session->folder, part, 0);
     if (entries) closedir(entries);
     unlinkat(session->parent, name, AT_REMOVEDIR);
 }
 
-int session_remove(struct session *session) {
+enum cause session_remove(struct session *session) {
     char dead[NAME_MAX + 1];
     const char *name = session_name(session);
-    end_child(session);
-    int error = find_itself(session);
-    if (error) return error == ENOENT ? 0 : error;
+    int error = session_find_itself(session);
+    if (error) return error == ENOENT ? CAUSE_NONE : cause_of(error);
     snprintf(dead, sizeof dead, DEAD_BEGIN "%.*s", NAME_MAX - (int)sizeof DEAD_BEGIN, name);
-    if (renameat(session->parent, name, session->parent, dead) != 0) return errno;
-    remove_folder(session, dead);
-    return 0;
+    if (renameat(session->parent, name, session->parent, dead) != 0) return cause_of(errno);
+    session_erase(session, dead);
+    return CAUSE_NONE;
 }
 
-/* For find.c, which removes a session without unsaved text, and one whose changes were dropped. The lock keeps a session that an editor
- * opened meanwhile. */
-bool session_remove_unless_locked(struct session *session) {
-    return session_lock(session, PART_PATH) == LOCK_TAKEN && session_remove(session) == 0;
+void session_remove_unless_locked(struct session *session) {
+    if (session_lock(session) == LOCK_TAKEN) session_remove(session);
 }

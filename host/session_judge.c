@@ -1,9 +1,11 @@
-/* Decisions about sessions, and the content of their short files, by plain facts, without system calls. session_judge.h says what each
- * call means; their cases are in tests/host/judge_session.c. */
+/* Decisions about sessions, and the words of their file `about`, by plain facts, without system calls. session_judge.h says what each call
+ * means; their cases are in tests/host/judge_session.c. */
 #include "session_judge.h"
 
 #include <inttypes.h>
+#include <stdarg.h>
 #include <stdio.h>
+#include <stdlib.h>
 #include <string.h>
 
 /* Bits of a mode: the group or others can write; others can write; only owners can rename and remove (sticky). */
@@ -93,7 +95,7 @@ bool is_same_id(const struct file_id *one, const struct file_id *other) {
 }
 
 bool is_surely_same_id(const struct file_id *one, const struct file_id *other) {
-    return is_same_id(one, other) && one->has_birth && other->has_birth && one->birth_seconds == other->birth_seconds &&
+    return one->has_birth && other->has_birth && one->inode == other->inode && one->birth_seconds == other->birth_seconds &&
            one->birth_nanos == other->birth_nanos;
 }
 
@@ -124,6 +126,167 @@ mode_t mode_of(const char *words) {
     uint64_t mode;
     if (!take_word(&words, digits, sizeof digits) || !number_of(digits, 8, UINT32_MAX, &mode)) return FOR_USER_ALONE;
     return (mode_t)mode & PERMISSIONS;
+}
+
+/* ---- sums */
+
+void sum_begin(struct sum *sum) {
+    *sum = (struct sum){.size = 0, .hash = 14695981039346656037u};
+}
+
+/* FNV-1a: each byte takes part in a step that can be undone, so one changed byte changes the hash. */
+void sum_more(struct sum *sum, const char *bytes, size_t size) {
+    sum->size += size;
+    for (size_t at = 0; at < size; at++) sum->hash = (sum->hash ^ (unsigned char)bytes[at]) * 1099511628211u;
+}
+
+bool is_same_sum(const struct sum *one, const struct sum *other) {
+    return one->size == other->size && one->hash == other->hash;
+}
+
+/* Reads a hash in hexadecimal, to the end of the words. */
+static bool hash_of(const char *words, uint64_t *hash) {
+    char word[24], *end;
+    if (!take_word(&words, word, sizeof word)) return false;
+    *hash = strtoull(word, &end, 16);
+    return *end == '\0';
+}
+
+static bool sum_of(const char *words, struct sum *sum) {
+    return take_number(&words, UINT64_MAX, &sum->size) && hash_of(words, &sum->hash);
+}
+
+/* ---- all facts: a line each, of a key and words, and the hash of all in the last line */
+
+static const char *const mark_words[] = {"dropped", "cut", "unsaved", "unjoined", "secret", "in-place"};
+enum { MARKS = sizeof mark_words / sizeof *mark_words };
+
+void about_clear(struct about *about) {
+    *about = (struct about){.mode = -1};
+    sum_begin(&about->journal);
+}
+
+/* The words that are written; `length` is the room if they have none. */
+struct writing {
+    char *words;
+    size_t length, room;
+};
+
+__attribute__((format(printf, 2, 3))) static void put(struct writing *writing, const char *format, ...) {
+    va_list values;
+    va_start(values, format);
+    int length = vsnprintf(writing->words + writing->length, writing->room - writing->length, format, values);
+    va_end(values);
+    writing->length += length > 0 ? (size_t)length : 0;
+    if (length < 0 || writing->length > writing->room) writing->length = writing->room;
+}
+
+/* A path, in which % and two digits stand for a byte that would end the line. */
+static void put_name(struct writing *writing, const char *key, const char *path) {
+    if (!*path) return;
+    put(writing, "%s ", key);
+    for (; *path; path++) put(writing, (unsigned char)*path < ' ' || *path == '%' ? "%%%02x" : "%c", (unsigned char)*path);
+    put(writing, "\n");
+}
+
+static void put_sum(struct writing *writing, const char *key, const struct sum *sum) {
+    put(writing, "%s %" PRIu64 " %016" PRIx64 "\n", key, sum->size, sum->hash);
+}
+
+size_t about_write(const struct about *about, char *words, size_t room) {
+    struct writing writing = {.words = words, .room = room};
+    char value[MOST_WORDS];
+    struct sum all;
+    put(&writing, "bidi-edit session 1\n");
+    put_name(&writing, "path", about->path);
+    put_name(&writing, "beside", about->beside);
+    words_of_file_id(&about->id, value);
+    if (about->has_id) put(&writing, "file %s", value);
+    if (about->mode >= 0) put(&writing, "mode %03o\n", (unsigned)about->mode);
+    words_of_begin(&about->begin, value);
+    if (about->has_begin) put(&writing, "begin %s", value);
+    words_of_process(&about->process, value);
+    if (about->has_process) put(&writing, "process %s", value);
+    put(&writing, "versions %s\nmarks", about->versions);
+    for (unsigned at = 0; at < MARKS; at++)
+        if (about->marks & 1u << at) put(&writing, " %s", mark_words[at]);
+    put(&writing, "\n");
+    if (about->has_text) put_sum(&writing, "text", &about->text);
+    if (about->has_known) put_sum(&writing, "known", &about->known);
+    put_sum(&writing, "journal", &about->journal);
+    put(&writing, "saved %" PRIu64 "\n", about->saved);
+    sum_begin(&all);
+    sum_more(&all, words, writing.length);
+    put(&writing, "sum %016" PRIx64 "\n", all.hash);
+    return writing.length < room ? writing.length : 0;
+}
+
+/* Whether a line begins with this key; then it goes on after it. */
+static bool take_key(const char **line, const char *key) {
+    size_t length = strlen(key);
+    if (strncmp(*line, key, length) != 0 || ((*line)[length] != ' ' && (*line)[length] != '\0')) return false;
+    *line += length + ((*line)[length] == ' ');
+    return true;
+}
+
+static void take_name(const char *line, char path[PATH_MAX]) {
+    size_t length = 0;
+    for (; *line && length < PATH_MAX - 1; line++) {
+        char digits[3] = {0};
+        if (*line == '%' && line[1] && line[2]) {
+            memcpy(digits, line + 1, 2);
+            line += 2;
+        }
+        path[length++] = digits[0] ? (char)strtoul(digits, NULL, 16) : *line;
+    }
+    path[length] = '\0';
+}
+
+static unsigned marks_of(const char *line) {
+    char word[16];
+    unsigned marks = 0;
+    while (take_word(&line, word, sizeof word)) {
+        for (unsigned at = 0; at < MARKS; at++)
+            if (strcmp(word, mark_words[at]) == 0) marks |= 1u << at;
+    }
+    return marks;
+}
+
+/* Reads a line. One with another key is of a later version, and no fault. */
+static void read_line(struct about *about, const char *line) {
+    if (take_key(&line, "path")) take_name(line, about->path);
+    else if (take_key(&line, "beside")) take_name(line, about->beside);
+    else if (take_key(&line, "file")) about->has_id = file_id_of(line, &about->id);
+    else if (take_key(&line, "mode")) about->mode = (int)mode_of(line);
+    else if (take_key(&line, "begin")) about->has_begin = begin_of(line, &about->begin);
+    else if (take_key(&line, "process")) about->has_process = process_of(line, &about->process);
+    else if (take_key(&line, "versions")) snprintf(about->versions, sizeof about->versions, "%s", line);
+    else if (take_key(&line, "marks")) about->marks = marks_of(line);
+    else if (take_key(&line, "text")) about->has_text = sum_of(line, &about->text);
+    else if (take_key(&line, "known")) about->has_known = sum_of(line, &about->known);
+    else if (take_key(&line, "saved") && !take_number(&line, UINT64_MAX, &about->saved)) about->saved = 0;
+    else if (take_key(&line, "journal") && !sum_of(line, &about->journal)) sum_begin(&about->journal);
+}
+
+bool about_read(struct about *about, char *bytes, size_t size) {
+    struct sum all;
+    uint64_t hash;
+    char *at = bytes, *end;
+    about_clear(about);
+    about->is_damaged = true;
+    sum_begin(&all);
+    while (size > 0 && (end = memchr(at, '\n', size))) {
+        size_t length = (size_t)(end - at) + 1;
+        const char *line = at;
+        *end = '\0';
+        if (take_key(&line, "sum")) about->is_damaged = !hash_of(line, &hash) || hash != all.hash;
+        else read_line(about, line);
+        *end = '\n';
+        sum_more(&all, at, length);
+        at += length;
+        size -= length;
+    }
+    return about->path[0] == '/';
 }
 
 /* ---- names and owners */
@@ -167,11 +330,8 @@ bool is_safe_above(uid_t owner, mode_t mode, uid_t user) {
 /* ---- whose a session is */
 
 enum belonging judge_belonging(const struct belonging_facts *facts) {
-    if (!facts->has_path) return facts->is_path || facts->leads_there ? BELONGS_AT_BEGIN : BELONGS_NOT;
-    if (facts->is_path) return BELONGS_BY_PATH;
-    if (facts->leads_there) return BELONGS_BY_NAME;
-    if (!facts->is_file) return BELONGS_NOT;
-    return facts->leads_anywhere ? BELONGS_BY_FILE : BELONGS_BY_LOST_FILE;
+    if (facts->is_beside || (facts->is_path && !facts->has_beside)) return BELONGS_BY_PATH;
+    return facts->is_file ? BELONGS_BY_FILE : BELONGS_NOT;
 }
 
 enum session_state judge_state(const struct state_facts *facts) {
@@ -179,20 +339,6 @@ enum session_state judge_state(const struct state_facts *facts) {
     if (facts->may_be_elsewhere) return SESSION_ELSEWHERE;
     if (!facts->has_something) return SESSION_EMPTY;
     return facts->is_dropped ? SESSION_DROPPED : SESSION_UNFINISHED;
-}
-
-bool counts_as_own(enum belonging belonging, enum session_state state) {
-    switch (belonging) {
-    case BELONGS_BY_PATH:
-    case BELONGS_BY_NAME:
-    /* its name led here, and leads nowhere now: the file or its folder was renamed */
-    case BELONGS_BY_LOST_FILE: return true;
-    /* another file has the name by now, and that one's starts ask about the session */
-    case BELONGS_BY_FILE:
-    case BELONGS_AT_BEGIN: return state == SESSION_LIVE;
-    case BELONGS_NOT: break;
-    }
-    return false;
 }
 
 /* ---- torn files */
@@ -215,118 +361,70 @@ enum verdict compare_end(const struct backup_comparison *comparison, uint64_t si
     return comparison->is_torn && size_of_file <= size_of_backup ? FILE_TORN : FILE_OTHER;
 }
 
+/* ---- the steps of a save that overwrites FILE */
+
+static const char *const step_words[] = {[STEP_READY] = "ready", [STEP_PARTLY] = "partly", [STEP_WHOLE] = "whole"};
+
+bool step_of(const char *words, struct step *step) {
+    char kind[8];
+    uint64_t device, inode, seconds, nanos;
+    if (!take_word(&words, kind, sizeof kind) || !take_number(&words, UINT64_MAX, &device) || !take_number(&words, UINT64_MAX, &inode)) return false;
+    if (!take_number(&words, INT64_MAX, &seconds) || !take_number(&words, NANOS - 1, &nanos)) return false;
+    if (!take_number(&words, UINT64_MAX, &step->from) || !take_number(&words, UINT64_MAX, &step->to)) return false;
+    if (!take_word(&words, step->boot, sizeof step->boot)) return false;
+    step->id = (struct file_id){.device = (dev_t)device, .inode = (ino_t)inode};
+    step->seconds = (int64_t)seconds;
+    step->nanos = (uint32_t)nanos;
+    for (step->kind = STEP_READY; step->kind <= STEP_WHOLE; step->kind++)
+        if (strcmp(kind, step_words[step->kind]) == 0) return true;
+    return false;
+}
+
+void words_of_step(const struct step *step, char words[MOST_WORDS]) {
+    snprintf(words, MOST_WORDS, "%s %" PRIu64 " %" PRIu64 " %" PRId64 " %" PRIu32 " %" PRIu64 " %" PRIu64 " %s\n", step_words[step->kind],
+             (uint64_t)step->id.device, (uint64_t)step->id.inode, step->seconds, step->nanos, step->from, step->to,
+             step->boot[0] ? step->boot : "-");
+}
+
+bool is_as_left(const struct step *step, const struct step *now) {
+    /* seconds that a step may take, and in which nobody else is likely to write FILE */
+    enum { SOON = 5 };
+    if (!is_same_id(&step->id, &now->id)) return false;
+    bool is_soon = now->seconds >= step->seconds - SOON && now->seconds <= step->seconds + SOON;
+    /* after a crash of the machine, the disk may have an earlier step than FILE */
+    if (strcmp(step->boot, now->boot) != 0) return is_soon;
+    if (step->kind == STEP_PARTLY) return is_soon && now->from >= step->from && now->from <= step->to;
+    return step->kind == STEP_WHOLE && now->seconds == step->seconds && now->nanos == step->nanos;
+}
+
 /* ---- keys */
 
-/* The state after the first byte of a key. A Save is noted, since a size may follow that was recorded with it. */
-static enum after behind_first(unsigned char byte) {
-    enum { SAVE = 0x13, ESCAPE = 0x1b };
-    if (byte == SAVE) return AFTER_SAVE;
-    return byte == ESCAPE ? AFTER_ESCAPE : AFTER_KEY;
-}
-
-static bool is_parameter(unsigned char byte) {
-    return (byte >= '0' && byte <= '9') || byte == ';';
-}
-
-static bool is_final(unsigned char byte) {
-    return (byte >= 'A' && byte <= 'Z') || (byte >= 'a' && byte <= 'z') || byte == '~';
-}
-
-/* Begins a key with a byte; one that goes on with a character (80 to BF in UTF-8) is none. */
-static void begin_key(struct key_count *count, unsigned char byte) {
-    count->keys += byte < 0x80 || byte > 0xbf;
-    count->after = behind_first(byte);
-}
-
-/* Counts some keys less, at least none. */
-static void take_back(struct key_count *count, size_t keys) {
-    count->keys = count->keys > keys ? count->keys - keys : 0;
-}
-
-/* Reads a byte of a control sequence. One that ends in t is a size of the window, and no key. */
-static void in_sequence(struct key_count *count, unsigned char byte) {
-    if (is_parameter(byte)) return;
-    if (byte == '>') {
-        count->after = IN_NOTICE;
-    } else if (is_final(byte)) {
-        /* a size, and the Save right before it, are no keys */
-        if (byte == 't') take_back(count, count->after == IN_SAVED_SEQUENCE ? 2 : 1);
-        count->after = AFTER_KEY;
-    } else {
-        begin_key(count, byte);
-    }
-}
-
-/* Reads a byte of a sequence with >. One that ends in ~ is a notice, and no key. */
-static void in_notice(struct key_count *count, unsigned char byte) {
-    if (is_parameter(byte)) return;
-    if (is_final(byte)) {
-        if (byte == '~') take_back(count, 1);
-        count->after = AFTER_KEY;
-    } else {
-        begin_key(count, byte);
-    }
-}
-
-/* Reads a byte of a journal. `after` carries the state on to the next one, so the journal may come in any pieces. */
+/* Reads a byte of a journal. Bytes that go on with a character (80 to BF in UTF-8) or with a sequence are no keys of their own. */
 static void count_byte(struct key_count *count, unsigned char byte) {
-    enum after after = count->after;
-    switch (after) {
-    case IN_SEQUENCE:
-    case IN_SAVED_SEQUENCE: in_sequence(count, byte); return;
-    case IN_NOTICE: in_notice(count, byte); return;
-    case AFTER_ESCAPE:
-    case AFTER_SAVED_ESCAPE:
-        if (byte == '[') {
-            count->after = after == AFTER_ESCAPE ? IN_SEQUENCE : IN_SAVED_SEQUENCE;
+    enum { SAVE = 0x13, ESCAPE = 0x1b };
+    if (count->is_in_sequence) {
+        bool is_final = (byte >= 'A' && byte <= 'Z') || (byte >= 'a' && byte <= 'z') || byte == '~';
+        if ((byte >= '0' && byte <= '9') || byte == ';') return;
+        if (byte == '>' && !count->is_notice) {
+            count->is_notice = true;
             return;
         }
-        break;
-    case AFTER_SAVE:
-    case AFTER_KEY: break;
+        count->is_in_sequence = false;
+        /* a size, and the Save right before it, and a notice are no keys */
+        if (byte == 't' && !count->is_notice) count->keys -= count->is_saved ? 2 : 1;
+        if (byte == '~' && count->is_notice) count->keys--;
+        if (is_final) return;
+    } else if (count->is_escape && byte == '[') {
+        count->is_in_sequence = true;
+        count->is_escape = count->is_notice = false;
+        return;
     }
-    begin_key(count, byte);
-    if (after == AFTER_SAVE && count->after == AFTER_ESCAPE) count->after = AFTER_SAVED_ESCAPE;
-}
-
-void count_begin(struct key_count *count) {
-    *count = (struct key_count){.keys = 0, .after = AFTER_KEY};
+    count->keys += byte < 0x80 || byte > 0xbf;
+    count->is_saved = byte == ESCAPE && count->is_save;
+    count->is_save = byte == SAVE;
+    count->is_escape = byte == ESCAPE;
 }
 
 void count_more(struct key_count *count, const char *bytes, size_t size) {
     for (size_t at = 0; at < size; at++) count_byte(count, (unsigned char)bytes[at]);
-}
-
-/* ---- line ends */
-
-void ends_begin(struct line_ends *ends) {
-    *ends = (struct line_ends){.has_lines = false};
-}
-
-void ends_more(struct line_ends *ends, const char *bytes, size_t size) {
-    for (size_t at = 0; at < size; at++) {
-        if (bytes[at] == '\n') {
-            ends->has_lines = true;
-            if (ends->last != '\r') ends->has_other = true;
-        }
-        ends->last = bytes[at];
-    }
-}
-
-bool ends_are_all_crlf(const struct line_ends *ends) {
-    return ends->has_lines && !ends->has_other;
-}
-
-/* ---- what is kept */
-
-enum keeping judge_keeping(const struct keeping_facts *facts) {
-    if (!facts->is_folder_there) return KEEPS_NOWHERE;
-    if (facts->is_changed) return KEEPS_NOTHING;
-    if (facts->is_behind) return KEEPS_NOT_YET;
-    if (facts->is_filled) return KEEPS;
-    return facts->is_copying ? KEEPS_SOON : KEEPS_NOT_YET;
-}
-
-bool is_notice_due(const struct notice_facts *facts) {
-    return facts->is_new || (facts->is_typed_since && facts->seconds_since >= NOTICE_AGAIN_SECONDS);
 }

@@ -2,15 +2,16 @@
 #ifndef SESSION_JUDGE_H
 #define SESSION_JUDGE_H
 
+#include <limits.h>
 #include <stdbool.h>
 #include <stddef.h>
 #include <stdint.h>
 #include <sys/types.h>
 
-/* ---- the content of a session's short files. The functions that read it return false if it is malformed. */
+/* ---- the words of a session's file `about`. Functions that read words return false if these are malformed. */
 
-/* The most bytes of a short file that is read, and of one that is written. */
-enum { LARGEST_NOTE = 65536, MOST_WORDS = 1024 };
+/* The most bytes of one fact that is a word or more, and of the whole file. */
+enum { MOST_WORDS = 1024, MOST_ABOUT = 65536 };
 
 /* The first window, direction and line of a session. */
 struct begin {
@@ -33,8 +34,9 @@ struct file_id {
 };
 bool file_id_of(const char *words, struct file_id *id);
 void words_of_file_id(const struct file_id *id, char words[MOST_WORDS]);
+/* Whether both are one file now; and whether they certainly are, though one of them was recorded long ago. Some disks get another device
+ * number with each mount, so for that only inode and birth count. */
 bool is_same_id(const struct file_id *one, const struct file_id *other);
-/* The same, but certain even if one of them was recorded long ago. */
 bool is_surely_same_id(const struct file_id *one, const struct file_id *other);
 
 /* A process that began or continued a session, and its machine. Containers of one machine have different names and the same boot. */
@@ -54,6 +56,50 @@ mode_t mode_of(const char *words);
 
 /* The permissions in a mode. */
 enum { PERMISSIONS = 0777 };
+
+/* The number of some bytes and a hash of them, by which a changed byte is noticed. A sum of nothing is the place to begin. */
+struct sum {
+    uint64_t size, hash;
+};
+void sum_begin(struct sum *sum);
+void sum_more(struct sum *sum, const char *bytes, size_t size);
+bool is_same_sum(const struct sum *one, const struct sum *other);
+
+/* What is noted of a session by a bit each. DROPPED: a second Quit dropped the changes. CUT: the end of the journal could not be written.
+ * UNSAVED: the text counts as changed from the start. UNJOINED: letters were not joined. SECRET: only root could read FILE. IN_PLACE: saves
+ * overwrite FILE. */
+enum mark { MARK_DROPPED = 1, MARK_CUT = 2, MARK_UNSAVED = 4, MARK_UNJOINED = 8, MARK_SECRET = 16, MARK_IN_PLACE = 32 };
+
+/* All facts of a session. */
+struct about {
+    /* FILE's path; and that of the file beside FILE to which a recovered text is saved, or empty. Both are absolute and without links. */
+    char path[PATH_MAX], beside[PATH_MAX];
+    /* FILE as it was opened or saved last. */
+    bool has_id;
+    struct file_id id;
+    /* FILE's permissions; -1 if FILE was not there. */
+    int mode;
+    bool has_begin, has_process;
+    struct begin begin;
+    struct process process;
+    /* What a replay of its keys depends on. */
+    char versions[MOST_WORDS];
+    /* Bits of enum mark. */
+    unsigned marks;
+    /* The file `text` is complete, and has this sum; the part of the journal that is on the disk; and, if the text counts as unsaved, what
+     * FILE has all the same. */
+    bool has_text, has_known;
+    struct sum text, journal, known;
+    /* The journal's size at the last save: a program that ends with all saved empties the journal. */
+    uint64_t saved;
+    /* A byte of `about` itself has changed; it is of version 0.4.0, and has no sums. */
+    bool is_damaged, is_old;
+};
+void about_clear(struct about *about);
+/* Returns the number of bytes; 0 if they have no room. */
+size_t about_write(const struct about *about, char *words, size_t room);
+/* Reads the file's bytes, and changes them. */
+bool about_read(struct about *about, char *bytes, size_t size);
 
 /* ---- names and owners */
 
@@ -82,22 +128,16 @@ bool is_safe_above(uid_t owner, mode_t mode, uid_t user);
 enum belonging {
     /* It is another file's session. */
     BELONGS_NOT,
-    /* Its path is the file's path; its path is another name of the same file. */
+    /* Its path is the file's path. */
     BELONGS_BY_PATH,
-    BELONGS_BY_NAME,
-    /* It opened or saved this very file, which has another name now; LOST: and nothing is at the session's path any more. */
-    BELONGS_BY_FILE,
-    BELONGS_BY_LOST_FILE,
-    /* It began with the file, under any name, and is not complete. */
-    BELONGS_AT_BEGIN
+    /* It opened or saved this very file, under any name. */
+    BELONGS_BY_FILE
 };
 
-/* What is known about a session's path (that of the file beside FILE if that exists, else that of FILE) and about the files. */
+/* What is known about a session and a file. */
 struct belonging_facts {
-    /* The session is complete, so it has a path. */
-    bool has_path;
-    /* Its path, or the one that it began with: is the file's path; leads to the same file; leads to some file. */
-    bool is_path, leads_there, leads_anywhere;
+    /* The session's path is the file's; its path beside is the file's; it has a path beside, and a file is there. */
+    bool is_path, is_beside, has_beside;
     /* It certainly opened or saved this very file. */
     bool is_file;
 };
@@ -113,10 +153,7 @@ struct state_facts {
 };
 enum session_state judge_state(const struct state_facts *facts);
 
-/* Whether a session in this state counts as the file's. */
-bool counts_as_own(enum belonging belonging, enum session_state state);
-
-/* ---- torn files, keys, line ends */
+/* ---- torn files, keys */
 
 /* A file compared with the backup, which has the whole text of a save that overwrites it. TORN: the save was interrupted in it.
  * OTHER: another program has written it. */
@@ -129,25 +166,33 @@ void compare_begin(struct backup_comparison *comparison);
 void compare_more(struct backup_comparison *comparison, const char *of_file, const char *of_backup, size_t count);
 enum verdict compare_end(const struct backup_comparison *comparison, uint64_t size_of_file, uint64_t size_of_backup);
 
-/* Counts a journal's keys, piece by piece, without replaying them. It does not count notices of the host, sizes of the window, and
- * a Save right before a size: a recovered session begins with these two. */
-enum after { AFTER_KEY, AFTER_SAVE, AFTER_ESCAPE, AFTER_SAVED_ESCAPE, IN_SEQUENCE, IN_SAVED_SEQUENCE, IN_NOTICE };
+/* How far a save that overwrites FILE has come. The save records it beside the backup before each step. So a later start can tell FILE as
+ * a killed save left it from a FILE that another program has emptied or cut since. */
+enum step_kind { STEP_READY, STEP_PARTLY, STEP_WHOLE };
+struct step {
+    /* READY: FILE is not changed yet. PARTLY: after this step FILE has at least `from` and at most `to` bytes. WHOLE: it has all. */
+    enum step_kind kind;
+    uint64_t from, to;
+    struct file_id id;
+    /* When FILE was changed last, before the step; for the first steps, the time of day. */
+    int64_t seconds;
+    uint32_t nanos;
+    /* Empty if unknown. */
+    char boot[64];
+};
+bool step_of(const char *words, struct step *step);
+void words_of_step(const struct step *step, char words[MOST_WORDS]);
+/* Whether FILE, which has a part of the backup's text, is as the save left it. `now` has its identity, size (`from`), time and boot. */
+bool is_as_left(const struct step *step, const struct step *now);
+
+/* Counts a journal's keys, piece by piece and from zero on, without replaying them. It does not count notices of the host, sizes of the
+ * window, and a Save right before a size: a recovered session begins with these two. */
 struct key_count {
     size_t keys;
-    /* What the last bytes were, since the next one may belong to the same key. SAVED: a Save came right before them. */
-    enum after after;
+    /* The last byte was a Save, or an Escape; a Save came right before the last Escape. In a control sequence, which may be a notice. */
+    bool is_save, is_escape, is_saved, is_in_sequence, is_notice;
 };
-void count_begin(struct key_count *count);
 void count_more(struct key_count *count, const char *bytes, size_t size);
-
-/* Whether a text has lines, and all of them end with CR LF; piece by piece. */
-struct line_ends {
-    bool has_lines, has_other;
-    char last;
-};
-void ends_begin(struct line_ends *ends);
-void ends_more(struct line_ends *ends, const char *bytes, size_t size);
-bool ends_are_all_crlf(const struct line_ends *ends);
 
 /* ---- what is kept of a running session */
 
@@ -156,26 +201,12 @@ enum keeping {
     KEEPS,
     /* The text as it was opened is being copied. */
     KEEPS_SOON,
-    /* The text, or a part that was removed, waits for space, or the disk refuses it: the session's `error` says which. */
+    /* The text or the journal waits for space, or the disk refuses it: the session's `cause` says which. */
     KEEPS_NOT_YET,
     /* FILE was changed before it could be copied. */
     KEEPS_NOTHING,
-    /* Its folder is gone. */
+    /* Its folder or one of its files was removed. */
     KEEPS_NOWHERE
 };
-
-struct keeping_facts {
-    /* `is_behind`: the journal was removed, and its new file lacks its end. */
-    bool is_folder_there, is_copying, is_filled, is_changed, is_behind;
-};
-enum keeping judge_keeping(const struct keeping_facts *facts);
-
-/* Whether a notice that something is not kept is due: it is new, or keys hid it and it was shown some seconds ago. */
-struct notice_facts {
-    bool is_new, is_typed_since;
-    unsigned seconds_since;
-};
-enum { NOTICE_AGAIN_SECONDS = 5 };
-bool is_notice_due(const struct notice_facts *facts);
 
 #endif

@@ -3,16 +3,17 @@
 #include "signals.h"
 
 #include <errno.h>
-#include <sys/time.h>
+#include <fcntl.h>
+#include <sys/stat.h>
 #include <sys/wait.h>
 #include <time.h>
 #include <unistd.h>
 
-/* Milliseconds. A timer interrupts each piece of a write after PIECE_MS, and again after each RING_MS. A wait for a child looks for its end
- * at least every LOOK_MS. */
-enum { PIECE_MS = 100, RING_MS = 20, LOOK_MS = 50 };
-/* WRITE_PIECE: a pipe that is ready takes so many bytes at once. WRITE_TRIES: how often a write or wait that fails is tried. */
-enum { WRITE_PIECE = 4096, WRITE_TRIES = 3 };
+#include "util.h"
+
+/* A wait for a child looks for its end at least every LOOK_MS. WRITE_PIECE: a pipe that is ready takes so many bytes at once. WRITE_TRIES: how
+ * often a write or wait that fails is tried. */
+enum { LOOK_MS = 50, WRITE_PIECE = 4096, WRITE_TRIES = 3 };
 
 volatile sig_atomic_t end_signal, is_resized, is_continued, is_stop_asked;
 /* When it came. */
@@ -20,10 +21,10 @@ static volatile int64_t end_time;
 
 /* The signals that were blocked when the host was started, and those that are blocked while it waits. */
 static sigset_t first_mask, waiting_mask;
+static bool was_pipe_ignored, was_size_ignored, is_stop_ignored;
 
 /* Signals that ask the host to end. Others that end a process do so at once, and the watcher restores the terminal. */
-static const int ending[] = {SIGHUP, SIGINT, SIGQUIT, SIGTERM, SIGUSR1, SIGUSR2, SIGALRM, SIGPIPE,
-                             SIGXCPU, SIGXFSZ, SIGVTALRM, SIGPROF, SIGIO, SIGPWR, SIGSTKFLT};
+static const int ending[] = {SIGHUP, SIGINT, SIGQUIT, SIGTERM, SIGUSR1, SIGUSR2};
 static const int waking[] = {SIGWINCH, SIGCONT, SIGCHLD};
 /* The signal that asks for a stop, before which the terminal is restored. */
 static const int stopping[] = {SIGTSTP};
@@ -36,54 +37,31 @@ int64_t now(void) {
     return (int64_t)at.tv_sec * 1000 + at.tv_nsec / 1000000;
 }
 
-void note_end(int number) {
+void note_end_at(int number, int64_t time) {
     if (end_signal) return;
     end_signal = number;
-    end_time = now();
+    end_time = time;
 }
 
-/* The handler of signals that wake the host: it only sets a flag, so that it may come at any moment. */
-static void note_waking(int number, siginfo_t *info, void *context) {
-    (void)info;
-    (void)context;
+void note_end(int number) {
+    note_end_at(number, now());
+}
+
+/* The handlers only set flags, so that they may come at any moment. */
+static void note_waking(int number) {
     if (number == SIGWINCH) is_resized = 1;
     if (number == SIGCONT) is_continued = 1;
     if (number == SIGTSTP) is_stop_asked = 1;
 }
 
-/* Whether a write of the host's own is the cause, or its timer. */
-static bool is_own_signal(int number, const siginfo_t *info) {
-    if (number == SIGALRM) return info->si_code == SI_KERNEL;
-    return (number == SIGPIPE || number == SIGXFSZ) && info->si_pid == getpid();
-}
-
-static void note_ending(int number, siginfo_t *info, void *context) {
-    (void)context;
-    if (!is_own_signal(number, info)) note_end(number);
-}
-
-/* Until catch_signals, such a signal ends the host, unless one of its own writes caused it. */
-static void die_unless_own(int number, siginfo_t *info, void *context) {
-    (void)context;
-    if (!is_own_signal(number, info)) die_from(number);
-}
-
-static bool is_ignored(int number) {
-    struct sigaction before;
-    return sigaction(number, NULL, &before) != 0 || (!(before.sa_flags & SA_SIGINFO) && before.sa_handler == SIG_IGN);
-}
-
-/* Has a signal handled by this function from now on. */
-static void handle(int number, void (*handler)(int, siginfo_t *, void *)) {
-    struct sigaction action = {.sa_flags = SA_SIGINFO};
+/* Has a signal handled by this function from now on. No call is begun again that it interrupts. Returns whether the caller of the host ignored it,
+ * which stays so unless it only wakes the host. */
+static bool handle(int number, void (*handler)(int)) {
+    struct sigaction action = {.sa_handler = handler}, before;
     sigemptyset(&action.sa_mask);
-    action.sa_sigaction = handler;
-    sigaction(number, &action, NULL);
-}
-
-/* Handles a signal that asks for the end, unless the caller of the host ignores it. */
-static void handle_ending(int number, void (*handler)(int, siginfo_t *, void *)) {
-    if (number == SIGALRM || !is_ignored(number)) handle(number, handler);
+    bool is_ignored = sigaction(number, &action, &before) == 0 && before.sa_handler == SIG_IGN;
+    if (is_ignored && number != SIGCHLD && number != SIGCONT && number != SIGWINCH) sigaction(number, &before, NULL);
+    return is_ignored;
 }
 
 /* Blocks signals except while the host waits (`waiting_mask`). */
@@ -103,44 +81,41 @@ void set_first_signals(void) {
     waiting_mask = first_mask;
     block(child, 1);
     handle(SIGCHLD, note_waking);
-    handle_ending(SIGPIPE, die_unless_own);
-    handle_ending(SIGXFSZ, die_unless_own);
+    /* a write to a pipe without a reader, or beyond a size limit, fails */
+    was_pipe_ignored = signal(SIGPIPE, SIG_IGN) == SIG_IGN;
+    was_size_ignored = signal(SIGXFSZ, SIG_IGN) == SIG_IGN;
 }
 
 void catch_signals(void) {
     block(ending, ENDING);
     block(waking, WAKING);
-    for (size_t i = 0; i < ENDING; i++) handle_ending(ending[i], note_ending);
+    for (size_t i = 0; i < ENDING; i++) handle(ending[i], note_end);
     for (size_t i = 0; i < WAKING; i++) handle(waking[i], note_waking);
-    if (is_ignored(SIGTSTP)) return;
-    block(stopping, 1);
-    handle(SIGTSTP, note_waking);
-}
-
-/* Lets a signal come now, or blocks it again. */
-static void let_signal_in(int number, bool is_let) {
-    sigset_t mask;
-    sigemptyset(&mask);
-    sigaddset(&mask, number);
-    sigprocmask(is_let ? SIG_UNBLOCK : SIG_BLOCK, &mask, NULL);
+    is_stop_ignored = handle(SIGTSTP, note_waking);
+    if (!is_stop_ignored) block(stopping, 1);
 }
 
 void let_stops_in(void) {
-    if (is_ignored(SIGTSTP)) return;
+    sigset_t mask;
+    if (is_stop_ignored) return;
     signal(SIGTSTP, SIG_DFL);
     if (is_stop_asked) kill(getpid(), SIGTSTP);
     is_stop_asked = 0;
-    let_signal_in(SIGTSTP, true);
+    sigemptyset(&mask);
+    sigaddset(&mask, SIGTSTP);
+    sigprocmask(SIG_UNBLOCK, &mask, NULL);
 }
 
 void stop_here(void) {
     is_stop_asked = 1;
     let_stops_in();
-    let_signal_in(SIGTSTP, false);
+    block(stopping, 1);
     handle(SIGTSTP, note_waking);
 }
 
 void give_back_signals(void) {
+    if (!was_pipe_ignored) signal(SIGPIPE, SIG_DFL);
+    if (!was_size_ignored) signal(SIGXFSZ, SIG_DFL);
     sigprocmask(SIG_SETMASK, &first_mask, NULL);
 }
 
@@ -176,45 +151,31 @@ void listen_once(void) {
     wait_for(NULL, 0, 1);
 }
 
-/* Waits until the file takes bytes, until the time `end` (forever if that is 0). The last writes handle no signals. */
-static bool is_ready(int file, int64_t end, bool is_last) {
-    int tries = WRITE_TRIES;
-    while (is_last || !end_signal) {
-        struct pollfd wanted = {.fd = file, .events = POLLOUT};
-        int64_t left = end - now();
-        int count = is_last ? poll(&wanted, 1, left > 0 ? (int)left : 0) : wait_for(&wanted, 1, end);
-        if (count > 0) return (wanted.revents & POLLNVAL) == 0;
-        if (count < 0 && errno != EINTR && --tries == 0) return false;
-        if (end != 0 && now() >= end) return false;
-    }
-    return false;
-}
-
-/* Writes once. The timer repeats, since its first signal may come before the write begins. */
-static ssize_t write_piece(int file, const char *text, size_t length) {
-    struct itimerval timer = {{0, RING_MS * 1000L}, {0, PIECE_MS * 1000L}}, none = {{0, 0}, {0, 0}};
-    let_signal_in(SIGALRM, true);
-    setitimer(ITIMER_REAL, &timer, NULL);
-    ssize_t count = write(file, text, length);
-    int error = errno;
-    setitimer(ITIMER_REAL, &none, NULL);
-    let_signal_in(SIGALRM, false);
-    errno = error;
-    return count;
+/* Opens a terminal or pipe once more, so that no write blocks; gives the file itself where that is not needed or fails. After su, the device
+ * of the terminal is another user's, but not /dev/tty. */
+static int without_blocking(int file) {
+    struct stat look;
+    if (fstat(file, &look) != 0 || (!S_ISCHR(look.st_mode) && !S_ISFIFO(look.st_mode)) || fcntl(file, F_GETFL) & O_NONBLOCK) return file;
+    int again = open(link_of(file).path, O_WRONLY | O_NONBLOCK | O_NOCTTY | O_CLOEXEC);
+    if (again < 0 && isatty(file)) again = open("/dev/tty", O_WRONLY | O_NONBLOCK | O_NOCTTY | O_CLOEXEC);
+    return again < 0 ? file : again;
 }
 
 void write_within(int file, const char *text, size_t length, int64_t limit, bool is_last) {
     int64_t end = limit == 0 ? 0 : now() + (is_last ? within(limit) : limit);
-    int tries = WRITE_TRIES;
-    while (length > 0 && tries > 0 && is_ready(file, end, is_last)) {
-        ssize_t count = write_piece(file, text, length < WRITE_PIECE ? length : WRITE_PIECE);
-        if (count > 0) {
-            text += count;
-            length -= (size_t)count;
-        } else if (count < 0 && errno != EINTR && errno != EAGAIN) {
-            tries--;
-        }
+    int to = without_blocking(file), tries = WRITE_TRIES;
+    while (length > 0 && tries > 0 && (is_last || !end_signal)) {
+        struct pollfd wanted = {.fd = to, .events = POLLOUT};
+        int64_t left = end - now();
+        /* the last writes handle no signals */
+        int ready = is_last ? poll(&wanted, 1, left > 0 ? (int)left : 0) : wait_for(&wanted, 1, end);
+        if (ready > 0 && wanted.revents & POLLNVAL) break;
+        ssize_t count = ready > 0 ? write(to, text, length < WRITE_PIECE ? length : WRITE_PIECE) : 0;
+        if (count > 0) text += count, length -= (size_t)count;
+        if ((ready < 0 || count < 0) && errno != EINTR && errno != EAGAIN) tries--;
+        if (count <= 0 && end != 0 && now() >= end) break;
     }
+    if (to != file) close(to);
 }
 
 bool wait_for_child(pid_t *child, int *status, int64_t end) {

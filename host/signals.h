@@ -27,8 +27,9 @@ void set_first_signals(void);
 /* Catches all other signals from now on. */
 void catch_signals(void);
 
-/* Acts as if this signal had come. */
+/* Acts as if this signal had come, now or at another time. */
 void note_end(int number);
+void note_end_at(int number, int64_t time);
 
 /* Stops the host as an uncaught SIGTSTP does, and returns when it is continued; at once in a job that nobody could continue. */
 void stop_here(void);

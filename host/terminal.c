@@ -1,19 +1,14 @@
-/* The terminal: its settings and size, the sequences that the host sends, pastes, and the watcher, which restores the terminal if the
- * host is killed. terminal.h says what each call promises. */
+/* The terminal: what it can do, its settings and size, the sequences that the host sends, and pastes. terminal.h says what each call
+ * promises. */
 #include "terminal.h"
 
 #include <errno.h>
 #include <fcntl.h>
-#include <limits.h>
-#include <poll.h>
-#include <pthread.h>
 #include <signal.h>
-#include <stdint.h>
 #include <stdio.h>
+#include <stdlib.h>
 #include <string.h>
 #include <sys/ioctl.h>
-#include <sys/mman.h>
-#include <sys/prctl.h>
 #include <termios.h>
 #include <unistd.h>
 
@@ -24,14 +19,20 @@
 
 /* The most bytes that wait for the terminal, of a title, and of other sequences; how often to try to change settings. */
 enum { MOST_SHOWN = 16384, MOST_TITLE = 4096, MOST_SEQUENCES = 1024, SETTINGS_TRIES = 3 };
-/* Milliseconds: for writing the first sequences; of silence after which a paste counts as over. */
-enum { FIRST_MS = 3000, PASTE_SILENCE_MS = 1000 };
+/* Milliseconds for writing the first sequences. */
+enum { FIRST_MS = 3000 };
 
 /* Modes that the painter requires: arrow keys send CSI, the character set is ASCII, replace mode, origin at the window's top, no scroll
  * region, autowrap (without it tmux joins combining marks to the letter before), a visible cursor, and no reordering by the terminal
  * (ECMA-48: mode 8, BDSM, and SCP, which ends in ` k`). In xterm, Alt with a letter sends ESC and the letter. PASTE: pastes are marked. */
 #define MODES "\033[?1l\033(B\017\033[4l\033[?6l\033[r\033[?7h\033[?25h\033[8l\033[1 k\033[?1036h"
 #define PASTE "\033[?2004h"
+#define END_PASTE "\033[?2004l"
+
+/* xterm and foot tell keys that they would send as the character alone, such as Ctrl with an apostrophe, which is the key W of a Hebrew
+ * layout. */
+#define KEYS "\033[>4;1m"
+#define END_KEYS "\033[>4m"
 
 /* Presses, drags and the wheel are reported (1002), in decimal numbers (1006). The older form ends in three bytes that would be taken for
  * keys, so 1006 is set first and reset last. */
@@ -40,7 +41,13 @@ enum { FIRST_MS = 3000, PASTE_SILENCE_MS = 1000 };
 
 /* Modes that shells expect: reordering is on again, and the modes of arrows and Alt are restored where the terminal could save
  * them. */
-#define END_MODES "\033[?2004l\033[0m\033[?1r\033[?1036r\033[?25h\033[0 k\033[8h"
+#define END_MODES "\033[0m\033[?1r\033[?1036r\033[?25h\033[0 k\033[8h"
+
+/* tmux and GNU screen hand these on to the terminal around them, which may be xterm; tmux only if it is set to. */
+#define AROUND_TMUX "\033Ptmux;\033\033[?1036s\033\033[?1036h\033\\"
+#define END_AROUND_TMUX "\033Ptmux;\033\033[?1036r\033\\"
+#define AROUND_SCREEN "\033P\033[?1036s\033[?1036h\033\\"
+#define END_AROUND_SCREEN "\033P\033[?1036r\033\\"
 
 /* The cursor is saved too: where nothing was painted, the end of the alternate screen restores it to its place. */
 #define SAVED "\0337\033[?1s\033[?1036s"
@@ -51,7 +58,6 @@ int terminal_line = -1, terminal_screen = -1;
 
 /* The settings from before, and the host's own. */
 static struct termios cooked, raw;
-static struct terminal_kind kind;
 /* `saving` is sent first. The program writes `before`, which is `entering` (it changes the screen) and `titled`, before its first painting.
  * `again` is sent after a SIGSTOP, and `ending` at the end. */
 static char saving[MOST_SEQUENCES], entering[MOST_SEQUENCES], titled[MOST_TITLE], before[MOST_SEQUENCES + MOST_TITLE];
@@ -59,6 +65,97 @@ static char again[MOST_SEQUENCES], ending[MOST_SEQUENCES];
 /* Sequences that wait to be written to the terminal. */
 static char waiting[MOST_SHOWN];
 static size_t waiting_length;
+
+/* ---- what the terminal can do */
+
+/* OTHER_KIND: any other terminal, or one that is not recognized. */
+enum kind { OTHER_KIND, XTERM, KONSOLE, KITTY, QTERMINAL, MLTERM, TERMINOLOGY };
+static enum kind kind;
+static bool keeps_title;
+
+static const char *value_of(const char *name) {
+    const char *value = getenv(name);
+    return value ? value : "";
+}
+
+static bool begins(const char *name, const char *beginning) {
+    return strncmp(value_of(name), beginning, strlen(beginning)) == 0;
+}
+
+/* Whether it may be GNU screen. Over ssh only TERM says so, and some users set it to that for tmux too. */
+static bool is_screen(void) {
+    return variable("STY") || (!variable("TMUX") && begins("TERM", "screen"));
+}
+
+/* Finds the kind by TERM, or by the one variable that the terminal sets. A terminal that was started in another one inherits the other's
+ * variable, so two variables say nothing; nor does one inside tmux or GNU screen. */
+static enum kind find_kind(void) {
+    static const struct {
+        const char *variable, *program;
+        enum kind kind;
+    } signs[] = {{"XTERM_VERSION", NULL, XTERM},      {"VTE_VERSION", NULL, OTHER_KIND},         {"KONSOLE_VERSION", NULL, KONSOLE},
+                 {"MLTERM", NULL, MLTERM},            {"KITTY_WINDOW_ID", NULL, KITTY},          {"ALACRITTY_WINDOW_ID", NULL, OTHER_KIND},
+                 {"INSIDE_EMACS", NULL, OTHER_KIND},  {"TERM_PROGRAM", NULL, OTHER_KIND},        {NULL, "konsole", KONSOLE},
+                 {NULL, "kitty", KITTY},              {NULL, "qterminal", QTERMINAL},            {NULL, "mlterm", MLTERM},
+                 {NULL, "terminology", TERMINOLOGY}};
+    enum kind found = OTHER_KIND;
+    int count = 0;
+    if (variable("TMUX") || is_screen()) return OTHER_KIND;
+    if (begins("TERM", "xterm-kitty")) return KITTY;
+    if (!begins("TERM", "xterm") && !begins("TERM", "konsole") && !begins("TERM", "mlterm")) return OTHER_KIND;
+    for (size_t i = 0; i < sizeof signs / sizeof *signs; i++) {
+        bool is_set = signs[i].variable && variable(signs[i].variable), is_program = signs[i].program && strcmp(value_of("TERM_PROGRAM"), signs[i].program) == 0;
+        if (is_set || is_program) found = signs[i].kind;
+        count += is_set;
+    }
+    return count == 1 ? found : OTHER_KIND;
+}
+
+/* Whether the terminal can save and restore its title. GNU screen cannot, and hides the terminal around it. */
+static bool can_keep_title(void) {
+    static const char *const terms[] = {"tmux", "alacritty", "foot", "mlterm", "vte", "xterm-kitty"};
+    if (variable("STY")) return false;
+    if (variable("TMUX") || kind == TERMINOLOGY) return true;
+    for (size_t i = 0; i < sizeof terms / sizeof *terms; i++)
+        if (begins("TERM", terms[i])) return true;
+    return variable("XTERM_VERSION") || variable("VTE_VERSION");
+}
+
+/* Whether the terminal, asked for reports of the mouse in numbers, sends no others. rxvt, xterm before the version 277 and GNU screen
+ * before 4.7 know the older form alone, and nothing tells which version of screen it is. The Linux console has no reports. tmux makes the
+ * reports itself. */
+static bool reports_in_numbers(void) {
+    static const char before_number[] = "XTerm(";
+    enum { FIRST_XTERM = 277, DECIMAL = 10 };
+    if (is_screen() || begins("TERM", "linux")) return false;
+    if (variable("TMUX")) return true;
+    if (begins("TERM", "rxvt") && !begins("TERM", "rxvt-unicode")) return false;
+    if (!begins("XTERM_VERSION", before_number)) return true;
+    long number = strtol(value_of("XTERM_VERSION") + sizeof before_number - 1, NULL, DECIMAL);
+    return number <= 0 || number >= FIRST_XTERM;
+}
+
+/* Most terminals that do not know copies for the system's clipboard ignore them. But GNU screen, rxvt, dvtm and zutty show the end of a
+ * long one as text, and a long one ends terminology. tmux reads the copies itself, whatever terminal is around it. */
+bool bears_clips(void) {
+    bool is_shown = is_screen() || begins("TERM", "rxvt") || begins("TERM", "dvtm") || (variable("ZUTTY_VERSION") && !variable("TMUX"));
+    return !is_shown && kind != TERMINOLOGY;
+}
+
+/* Whether modified keys are asked for: only of terminals that then send all other keys as before. mlterm, which may have xterm's TERM, sends
+ * even capital letters in another form. */
+static bool tells_keys(void) {
+    return kind == XTERM || (begins("TERM", "foot") && !variable("TMUX") && !variable("STY"));
+}
+
+const char *terminal_hint(const char **name) {
+    kind = find_kind();
+    *name = kind == KITTY ? "kitty" : "qterminal";
+    if (kind == KITTY) return "kitty reverses Hebrew and Arabic words: see 'man bidi-edit', TERMINALS";
+    return kind == QTERMINAL ? "qterminal reverses Hebrew and Arabic words: see 'man bidi-edit', TERMINALS" : NULL;
+}
+
+/* ---- the terminal, its size and settings */
 
 bool open_terminal(void) {
     const char *name = "/dev/tty";
@@ -69,10 +166,8 @@ bool open_terminal(void) {
     }
     if (!name || terminal_line < 0) return false;
     terminal_screen = open(name, O_RDWR | O_NOCTTY | O_CLOEXEC);
-    if (terminal_screen >= 0) return true;
-    close(terminal_line);
-    terminal_line = -1;
-    return false;
+    if (terminal_screen < 0) close_one(&terminal_line);
+    return terminal_line >= 0;
 }
 
 static unsigned side(unsigned side, unsigned without) {
@@ -113,16 +208,23 @@ static bool set(const struct termios *settings) {
     return false;
 }
 
-/* Whether the host's settings still stand. Other programs, such as a shell, set others, which always let keys send signals. */
-static bool is_raw(void) {
+/* Other programs set settings that let keys send signals. */
+bool is_raw(void) {
     struct termios settings;
     return tcgetattr(terminal_line, &settings) == 0 && !(settings.c_lflag & (tcflag_t)(ICANON | ISIG));
+}
+
+bool has_other_settings(void) {
+    struct termios settings;
+    return !is_raw() && tcgetattr(terminal_line, &settings) == 0 && settings.c_lflag != cooked.c_lflag;
 }
 
 void restore_settings(void) {
     signal(SIGTTOU, SIG_IGN);
     set(&cooked);
 }
+
+/* ---- the screen */
 
 /* Makes the sequence of a title without control characters, which would end it. */
 static void make_title(char text[MOST_TITLE], const char *title) {
@@ -134,31 +236,30 @@ static void make_title(char text[MOST_TITLE], const char *title) {
 }
 
 void prepare_screen(const char *title, bool has_mouse) {
-    find_terminal_kind(&kind);
-    bool is_reported = has_mouse && kind.reports_in_numbers;
-    const char *mouse = is_reported ? MOUSE : "", *end_mouse = is_reported ? END_MOUSE : "";
-    /* tmux would drop them */
-    const char *off = kind.is_in_tmux ? "" : kind.off, *on = kind.is_in_tmux ? "" : kind.on;
-    if (kind.keeps_title) make_title(titled, title);
-    snprintf(saving, sizeof saving, "%s%s", SAVED, kind.keeps_title ? SAVED_TITLE : "");
-    snprintf(entering, sizeof entering, "\033[?1049h%s%s%s%s", MODES, off, PASTE, mouse);
+    kind = find_kind();
+    keeps_title = can_keep_title();
+    bool is_reported = has_mouse && reports_in_numbers(), tells = tells_keys(), is_tmux = variable("TMUX") && !variable("STY");
+    const char *mouse = is_reported ? MOUSE : "", *end_mouse = is_reported ? END_MOUSE : "", *keys = tells ? KEYS : "", *end_keys = tells ? END_KEYS : "";
+    const char *around = is_tmux ? AROUND_TMUX : is_screen() ? AROUND_SCREEN : "";
+    const char *end_around = is_tmux ? END_AROUND_TMUX : is_screen() ? END_AROUND_SCREEN : "";
+    /* these two reorder in spite of the standard modes */
+    const char *off = kind == KONSOLE ? "\033]50;BidiRenderingEnabled=false\a" : kind == MLTERM ? "\033]5379;use_ctl=false\a" : "";
+    const char *on = kind == KONSOLE ? "\033]50;BidiRenderingEnabled=true\a" : kind == MLTERM ? "\033]5379;use_ctl=true\a" : "";
+    if (keeps_title) make_title(titled, title);
+    snprintf(saving, sizeof saving, "%s%s", SAVED, keeps_title ? SAVED_TITLE : "");
+    snprintf(entering, sizeof entering, "\033[?1049h%s%s%s%s%s%s", MODES, around, off, keys, PASTE, mouse);
     snprintf(before, sizeof before, "%s%s", entering, titled);
     /* 1049 saves the cursor, 1047 keeps the saved one */
-    snprintf(again, sizeof again, "\033[?1047h%s%s%s%s", MODES, off, PASTE, mouse);
-    snprintf(ending, sizeof ending, "%s%s%s%s\033[?1049l", end_mouse, END_MODES, on, kind.keeps_title ? END_TITLE : "");
+    snprintf(again, sizeof again, "\033[?1047h%s%s%s%s%s", MODES, off, keys, PASTE, mouse);
+    snprintf(ending, sizeof ending, "%s%s%s%s%s%s\033[?1049l", end_mouse, end_keys, END_MODES, end_around, on, keeps_title ? END_TITLE : "");
 }
 
 const char *first_sequences(void) {
     return before;
 }
 
-bool bears_clips(void) {
-    return kind.bears_clips;
-}
-
 bool begin_screen(void) {
     if (!set(&raw)) return false;
-    tell_outer(&kind, true, false);
     write_within(terminal_line, saving, strlen(saving), FIRST_MS, false);
     return true;
 }
@@ -176,13 +277,22 @@ void take_up_screen(void) {
 }
 
 void show_title(const char *title) {
-    if (!kind.keeps_title) return;
+    if (!keeps_title) return;
     make_title(titled, title);
     show(titled);
 }
 
 void ring(void) {
     show("\a");
+}
+
+void show_last_row(const char *message, bool keeps_cursor) {
+    char text[256];
+    struct size size;
+    measure(&size);
+    snprintf(text, sizeof text, "%s\033[%u;1H\033[0m\033[K%.*s%s", keeps_cursor ? "\0337" : "", size.rows, (int)size.columns - 1, message,
+             keeps_cursor ? "\0338" : "");
+    show(text);
 }
 
 bool is_showing(void) {
@@ -198,16 +308,16 @@ void go_on_showing(void) {
     memmove(waiting, waiting + taken, waiting_length);
 }
 
-void restore_screen(int64_t limit) {
+void restore_screen(int64_t limit, bool ends_pastes) {
     /* first the rest of a sequence that is partly written */
+    if (ends_pastes) show(END_PASTE);
     show(ending);
     write_within(terminal_line, waiting, waiting_length, limit, true);
     waiting_length = 0;
-    tell_outer(&kind, false, true);
 }
 
 void leave_screen(int64_t limit) {
-    restore_screen(limit);
+    restore_screen(limit, true);
     set(&cooked);
     watched->is_changed = false;
 }
@@ -215,19 +325,20 @@ void leave_screen(int64_t limit) {
 void enter_screen(void) {
     set(&raw);
     watched->is_changed = true;
-    tell_outer(&kind, true, false);
     /* before the program may paint again */
     const char *const texts[] = {saving, entering, titled};
     for (size_t i = 0; i < sizeof texts / sizeof *texts; i++) write_within(terminal_line, texts[i], strlen(texts[i]), FIRST_MS, false);
 }
 
+/* ---- pastes */
+
 void follow_paste(struct paste *paste, const unsigned char *bytes, size_t length) {
     /* ESC [ 2 0 0 ~ and ESC [ 2 0 1 ~, six bytes each */
-    static const uint64_t begins = 0x1b5b3230307e, ends = 0x1b5b3230317e, six_bytes = 0xffffffffffff;
+    static const uint64_t begins_with = 0x1b5b3230307e, ends_with = 0x1b5b3230317e, six_bytes = 0xffffffffffff;
     for (size_t i = 0; i < length; i++) {
         paste->last_bytes = (paste->last_bytes << 8 | bytes[i]) & six_bytes;
-        if (paste->last_bytes == begins) paste->is_under_way = true;
-        if (paste->last_bytes == ends) paste->is_under_way = false;
+        if (paste->last_bytes == begins_with) paste->is_under_way = true;
+        if (paste->last_bytes == ends_with) paste->is_under_way = false;
     }
 }
 
@@ -244,123 +355,4 @@ void drain_paste(struct paste *paste, int64_t limit) {
         if (length > 0) follow_paste(paste, bytes, (size_t)length);
     }
     if (paste->is_under_way) tcflush(terminal_line, TCIFLUSH);
-}
-
-/* ---- the watcher */
-
-/* Milliseconds. SAVE_MS: how long a save may go on after the host's death. TTY_RESTORE_MS: how long the terminal may take to accept what
- * restores it. WATCH_MS: between two looks at a process. */
-enum { SAVE_MS = 4500, TTY_RESTORE_MS = 1000, WATCH_MS = 50 };
-
-struct watched *watched;
-pid_t watcher;
-
-/* The program's name in the command line. */
-static char *own_word = NULL;
-
-void note_own_word(char *word) {
-    own_word = word;
-}
-
-/* Writes another name over the host's own, within its room in the command line. */
-static void set_own_word(const char *bytes, size_t length) {
-    for (size_t i = 0; i < length; i++) own_word[i] = bytes[i];
-}
-
-/* Forks the watcher under another name. Users kill processes by the host's name, so the watcher never has that name. */
-static pid_t fork_under_name(void) {
-    static char other_word[PATH_MAX] = "bidi-watcher", word[PATH_MAX];
-    char name[16];
-    size_t length = own_word ? strnlen(own_word, sizeof word - 1) : 0;
-    prctl(PR_GET_NAME, name);
-    prctl(PR_SET_NAME, other_word);
-    if (length > 0) snprintf(word, sizeof word, "%s", own_word);
-    set_own_word(other_word, length);
-    pid_t child = fork();
-    if (child == 0) return 0;
-    prctl(PR_SET_NAME, name);
-    set_own_word(word, length);
-    return child;
-}
-
-/* Reads and drops bytes until the end of a pipe. Returns whether that came before the time `end`. */
-static bool ends_before(int file, int64_t end) {
-    char bytes[512];
-    while (now() < end) {
-        struct pollfd wanted = {.fd = file, .events = POLLIN};
-        if (poll(&wanted, 1, (int)(end - now())) <= 0) continue;
-        ssize_t count = read(file, bytes, sizeof bytes);
-        if (count == 0 || (count < 0 && errno != EAGAIN && errno != EINTR)) return true;
-    }
-    return false;
-}
-
-/* Waits until the host is dead. The kernel releases a dead process's lock before it tells the parent, a shell. If locking fails, this looks
- * for the host again and again. */
-static void wait_for_host(pid_t host) {
-    if (pthread_mutex_lock(&watched->life) == EOWNERDEAD) return;
-    while (getppid() == host) poll(NULL, 0, WATCH_MS);
-}
-
-/* Drops the rest of a paste. Output is suspended meanwhile, so that a shell stops at its prompt and reads none of the paste. */
-static void end_paste(void) {
-    if (!watched->paste.is_under_way) return;
-    tcflow(terminal_line, TCOOFF);
-    drain_paste(&watched->paste, PASTE_MS);
-}
-
-/* The watcher's life: waits for the host's end, then restores the terminal if the host did not, and ends the program and its save. */
-static _Noreturn void watch(int words, pid_t host) {
-    wait_for_host(host);
-    int64_t start = now();
-    bool is_paste = watched->paste.is_under_way, is_changed = watched->is_changed;
-    if (is_changed) end_paste();
-    /* at once, since a shell sets its own settings now; if it has, they stay */
-    if (is_changed && is_raw()) restore_settings();
-    if (is_paste) tcflow(terminal_line, TCOON);
-    if (!ends_before(words, start + GRACE_MS) && watched->program > 0) kill(watched->program, SIGKILL);
-    if (is_changed) restore_screen(TTY_RESTORE_MS);
-    /* a save ends soon, since its pipe has ended with the program */
-    while (watched->saver > 0 && now() < start + SAVE_MS && kill(watched->saver, 0) == 0) poll(NULL, 0, WATCH_MS);
-    if (watched->saver > 0) kill(watched->saver, SIGKILL);
-    _exit(0);
-}
-
-/* Closes all descriptors that it does not need, since others may wait for the end of a pipe or for FILE to be closed. No signal but
- * SIGKILL can end the watcher. */
-static _Noreturn void become_watcher(int words, const int held[2], pid_t host) {
-    const int kept[] = {words, terminal_line, held[0], held[1]};
-    sigset_t mask;
-    sigfillset(&mask);
-    sigprocmask(SIG_SETMASK, &mask, NULL);
-    setpgid(0, 0);
-    /* a process without a controlling terminal is never stopped for being in the background */
-    ioctl(terminal_line, TIOCNOTTY);
-    close_others(kept, sizeof kept / sizeof *kept);
-    watch(words, host);
-}
-
-/* Makes the shared memory, with a lock that the host holds as long as it lives. */
-static bool share(void) {
-    pthread_mutexattr_t attributes;
-    void *shared = mmap(NULL, sizeof *watched, PROT_READ | PROT_WRITE, MAP_SHARED | MAP_ANONYMOUS, -1, 0);
-    if (shared == MAP_FAILED) return false;
-    watched = shared;
-    return pthread_mutexattr_init(&attributes) == 0 && pthread_mutexattr_setpshared(&attributes, PTHREAD_PROCESS_SHARED) == 0 &&
-           pthread_mutexattr_setrobust(&attributes, PTHREAD_MUTEX_ROBUST) == 0 && pthread_mutex_init(&watched->life, &attributes) == 0 &&
-           pthread_mutex_lock(&watched->life) == 0;
-}
-
-bool start_watcher(int words, const int held[2]) {
-    if (!share()) return false;
-    pid_t host = getpid();
-    watcher = fork_under_name();
-    if (watcher == 0) become_watcher(words, held, host);
-    if (watcher < 0) watcher = 0;
-    /* in a process group of its own before the terminal changes, so that a kill of the whole job spares it */
-    return watcher > 0 && (setpgid(watcher, watcher) == 0 || errno == EACCES);
-}
-
-void end_watcher(void) {
-    kill_child(&watcher);
 }

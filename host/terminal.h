@@ -1,4 +1,4 @@
-/* The terminal: its descriptors, settings and size, what the host writes to it, and which of its bytes the host drops. */
+/* The terminal: its descriptors, settings and size, what the host writes to it, which of its bytes the host drops, and the watcher. */
 #ifndef TERMINAL_H
 #define TERMINAL_H
 
@@ -31,8 +31,13 @@ unsigned char erase_character(void);
 /* Restores the settings at once, without waiting for the output, which may never go out. Works for a job in the background too. */
 void restore_settings(void);
 
-/* Finds the terminal's kind, and prepares the sequences for it: with this title, if the terminal can restore its old one, and with a
- * request for reports of the mouse if `has_mouse`, unless the editor would take the reports for keys. */
+/* Whether the host's settings still stand; whether another program, such as a shell that edits its lines, has set its own since. */
+bool is_raw(void);
+bool has_other_settings(void);
+
+/* Finds what the terminal can do, by TERM and by the variables that terminals set, and prepares the sequences for it: with this title, if
+ * the terminal can restore its old one, and with a request for reports of the mouse if `has_mouse`, unless the editor would take the
+ * reports for keys. */
 void prepare_screen(const char *title, bool has_mouse);
 
 /* What the program writes before its first painting. */
@@ -40,6 +45,9 @@ const char *first_sequences(void);
 
 /* Whether copies for the system's clipboard may be sent to the terminal. */
 bool bears_clips(void);
+
+/* What the user has to set in a terminal that shows right-to-left words reversed, and the terminal's name; NULL for others. */
+const char *terminal_hint(const char **name);
 
 /* Changes the settings, and sends the sequences that change nothing visible. The system stops a host in the background here, until it has
  * the terminal. */
@@ -49,13 +57,17 @@ bool begin_screen(void);
  * again. */
 void take_up_screen(void);
 
-/* Restores what the terminal showed. Gives up after so many milliseconds if the terminal takes no more. */
-void restore_screen(int64_t limit);
+/* Restores what the terminal showed; pastes stay marked unless `ends_pastes`. Gives up after so many milliseconds if the terminal takes no
+ * more. */
+void restore_screen(int64_t limit, bool ends_pastes);
 
 /* Restores screen and settings before a stop, within so many milliseconds; sets both again after the stop. The system stops a host in the
  * background here. */
 void leave_screen(int64_t limit);
 void enter_screen(void);
+
+/* Shows a message in the last row, in place of what the program painted there. The cursor stays behind it, unless `keeps_cursor`. */
+void show_last_row(const char *message, bool keeps_cursor);
 
 /* Whether sequences wait to be written to the terminal; writes as much as it takes. A sequence for which there is no room is dropped. */
 bool is_showing(void);
@@ -67,8 +79,8 @@ struct paste {
     volatile bool is_under_way;
 };
 
-/* Milliseconds to wait for the end of a paste. */
-enum { PASTE_MS = 2000 };
+/* Milliseconds to wait for the end of a paste; of silence after which it counts as over. */
+enum { PASTE_MS = 2000, PASTE_SILENCE_MS = 1000 };
 
 /* Looks through bytes that were read for the beginning and end of a paste. */
 void follow_paste(struct paste *paste, const unsigned char *bytes, size_t length);
@@ -77,13 +89,14 @@ void follow_paste(struct paste *paste, const unsigned char *bytes, size_t length
  * commands. */
 void drain_paste(struct paste *paste, int64_t limit);
 
-/* ---- the watcher */
+/* ---- the watcher (watcher.c), which restores the terminal if the host is killed */
 
-/* Memory that host, program and watcher share: a lock that the host holds as long as it lives; whether the terminal is changed; the
- * processes of the program and of a save, 0 if there is none; and the terminal's paste. */
+/* Memory that host, program and watcher share: a lock that the host holds as long as it lives; whether the terminal is changed; whether the
+ * program has read something, and so has painted; the processes of the program and of a save, 0 if there is none; and the terminal's
+ * paste. */
 struct watched {
     pthread_mutex_t life;
-    volatile bool is_changed;
+    volatile bool is_changed, has_read;
     volatile pid_t program, saver;
     struct paste paste;
 };
@@ -97,34 +110,10 @@ extern pid_t watcher;
 void note_own_word(char *word);
 
 /* Starts the watcher. It reads the program's pipe `words`, whose end tells it that the program has ended. Until then it holds the session's
- * folder and lock (-1 without a session). */
-bool start_watcher(int words, const int held[2]);
+ * folder and lock (-1 without a session). It says `line`, if that is not NULL, once it has restored the terminal. */
+bool start_watcher(int words, const int held[2], const char *line);
 
 /* Kills the watcher, once the host itself has restored the terminal. */
 void end_watcher(void);
-
-/* ---- kinds of terminals (kinds.c) */
-
-/* OTHER_KIND: any other terminal, or one that could not be recognized. */
-enum kind { OTHER_KIND, VTE, KONSOLE, KITTY, QTERMINAL, MLTERM, TERMINOLOGY };
-
-/* What is known about the terminal. `off` is a sequence that, besides the standard modes, keeps it from reordering, and `on` makes it
- * reorder again if it did; both may be empty. `outer` is the device of the terminal around tmux, or empty. `reports_in_numbers`: if it is
- * asked for reports of the mouse in decimal numbers, it sends no others, as far as is known. `bears_clips`: copies for the system's
- * clipboard do it no harm, as far as is known. */
-struct terminal_kind {
-    enum kind kind;
-    bool keeps_title, is_in_tmux, reports_in_numbers, bears_clips;
-    const char *off, *on;
-    char outer[256];
-};
-
-/* Finds the terminal's kind: by its answer to tmux, by TERM, or by the variable that it sets. A terminal that was started in another one
- * inherits the other's variable, so two variables say nothing; nor does one inside GNU screen. If the terminal reverses right-to-left
- * words and no sequence prevents that, and its setting does not either, this warns and names the setting. */
-void find_terminal_kind(struct terminal_kind *found);
-
-/* Makes the terminal around tmux keep the order of what it is sent, or reorder again. */
-void tell_outer(const struct terminal_kind *kind, bool is_kept, bool is_last);
 
 #endif

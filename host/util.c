@@ -108,6 +108,7 @@ int read_pieces(int file, off_t place, void (*read)(void *, const char *, size_t
     }
 }
 
+/* For read_pieces: appends to a file, whose first fault is kept. */
 struct copying {
     int to, error;
 };
@@ -115,12 +116,6 @@ struct copying {
 static void copy_piece(void *context, const char *bytes, size_t size) {
     struct copying *copying = context;
     if (!copying->error) copying->error = write_bytes(copying->to, bytes, size);
-}
-
-int copy_pieces(int from, off_t place, int to) {
-    struct copying copying = {.to = to};
-    int error = read_pieces(from, place, copy_piece, &copying);
-    return error ? error : copying.error;
 }
 
 int copy_file(int from, off_t place, int to) {
@@ -131,7 +126,9 @@ int copy_file(int from, off_t place, int to) {
         count = copy_file_range(from, &place, to, NULL, LARGEST_COPY, 0);
     } while (count > 0);
     /* a system that copies no further may still read */
-    return copy_pieces(from, place, to);
+    struct copying copying = {.to = to};
+    int error = read_pieces(from, place, copy_piece, &copying);
+    return error ? error : copying.error;
 }
 
 DIR *open_entries(int folder) {
@@ -150,6 +147,18 @@ const char *next_entry(DIR *entries) {
     return entry ? entry->d_name : NULL;
 }
 
+char process_state(pid_t process) {
+    char path[64], look[512];
+    snprintf(path, sizeof path, "/proc/%ld/stat", (long)process);
+    int file = open(path, O_RDONLY | O_CLOEXEC);
+    ssize_t length = file < 0 ? 0 : read(file, look, sizeof look - 1);
+    close_one(&file);
+    look[length > 0 ? length : 0] = 0;
+    /* after its name, which may have any letters */
+    const char *at = strrchr(look, ')');
+    return at && at[1] == ' ' && at[2] ? at[2] : 'Z';
+}
+
 bool is_lacking(int error) {
     return error == ENOSYS || error == EINVAL || error == EOPNOTSUPP;
 }
@@ -165,7 +174,7 @@ int lock_file(int file, int tries, int milliseconds) {
 }
 
 int sync_file(int file) {
-    return fsync(file) == 0 || is_lacking(errno) || errno == EROFS ? 0 : errno;
+    return fsync(file) == 0 || is_lacking(errno) ? 0 : errno;
 }
 
 bool make_letters(char *letters, size_t count, const char *alphabet) {

@@ -36,10 +36,9 @@ const char *before_slash(const char *folder);
 /* A variable of the environment; NULL where it is not set or empty. */
 const char *variable(const char *name);
 
-/* Writes all bytes at the file's position; copies all of a file from `place` on to the position of another file. */
+/* Writes all bytes at the file's position; copies all of a file from `place` on to the position of another file, as fast as the disk can: it may
+ * share blocks. */
 int write_bytes(int file, const void *bytes, size_t size);
-int copy_pieces(int from, off_t place, int to);
-/* Copies in the same way, as fast as the disk can: it may share blocks. */
 int copy_file(int from, off_t place, int to);
 
 /* Calls `read` with the bytes of an open file, piece by piece, from a place on. */
@@ -50,6 +49,9 @@ int read_pieces(int file, off_t place, void (*read)(void *, const char *, size_t
 DIR *open_entries(int folder);
 const char *next_entry(DIR *entries);
 
+/* The state of a process as the kernel names it: S or D is asleep, R at work, T stopped; Z if it has ended. */
+char process_state(pid_t process);
+
 /* Whether a call failed because the system or the file system does not have it. */
 bool is_lacking(int error);
 
@@ -57,7 +59,7 @@ bool is_lacking(int error);
  * time, or an errno. */
 int lock_file(int file, int tries, int milliseconds);
 
-/* Syncs a file or folder to the disk, if its file system can. */
+/* Syncs a file or folder to the disk. Where the file system has no such call, nothing fails. */
 int sync_file(int file);
 
 /* Makes a string of so many letters of an alphabet, chosen at random so that nobody can guess them. */

@@ -1,7 +1,6 @@
 /* The command line, read into a call; the help and the version; and the arguments of the program. words.h says what each call promises. */
 #include "words.h"
 
-#include <fcntl.h>
 #include <stddef.h>
 #include <stdio.h>
 #include <stdlib.h>
@@ -11,6 +10,7 @@
 
 #include "file.h"
 #include "say.h"
+#include "util.h"
 
 /* The last line of the longest text, if every byte of that text is a line feed. Numbers from `too_large` on count as this line. */
 static const unsigned long last_line = LARGEST_TEXT + 1, too_large = 100000000;
@@ -32,14 +32,14 @@ const char help_text[] = USAGE "\n"
     "--recover restores or lists unsaved text, --to stores it, --forget deletes it.\n"
     "\n"
     "  Arrow keys            move as the screen shows; Ctrl-Left, Ctrl-Right by words\n"
-    "  Ctrl-B Ctrl-F Ctrl-G  back, forward in stored order; to a line: 12 or 12:5\n"
+    "  Alt-Left Alt-Right    back, forward in stored order; Ctrl-G to a line: 12:5\n"
     "  Home End Page Up/Down start, end of the row (with Ctrl: of the text); a window\n"
     "  Backspace Delete      erase before, at the cursor; with Ctrl: by words\n"
-    "  Ctrl-S Ctrl-Q F1 F2   save; quit (twice if unsaved); show keys; direction\n"
+    "  Ctrl-S Ctrl-Q F1 F2   save; quit (F10 too; twice if unsaved); keys, direction\n"
     "  Ctrl-Z Ctrl-Y Ctrl-L  undo; redo; repaint the screen\n"
     "  Ctrl-Space or Ctrl-@  mark a region; Shift with a move, or the mouse, selects\n"
     "  Ctrl-X Ctrl-C Ctrl-V  cut, copy the selection, or else the line; paste\n"
-    "  Ctrl-W Ctrl-R F3 F4   find forward, back, next; replace; Escape cancels\n"
+    "  Ctrl-F Ctrl-B F3 F4   find forward, back, next; replace; Escape cancels\n"
     "  Ctrl-K Ctrl-T         insert a character listed below; character info\n"
     "\n"
     "The last row: * if changes are not saved, else -; line:letter; a message.\n"
@@ -53,12 +53,29 @@ const char *direction_word(enum direction direction) {
     return directions[direction];
 }
 
-/* The direction that a word names, or -1. */
-static int direction_of(const char *word) {
-    for (int i = 0; i < (int)(sizeof directions / sizeof *directions); i++)
-        if (strcmp(word, directions[i]) == 0) return i;
-    return -1;
-}
+/* The state of parsing. `cause` is NULL until an argument is refused. */
+struct reading {
+    struct call *call;
+    const char *cause, *file, *other;
+    bool is_recovery, is_forgetting, is_print;
+};
+
+enum option { DIRECTION, LINE, OTHER, COLUMNS, FORCED, UNKEPT, UNJOINED, NO_MOUSE, NO_CLIPBOARD, RECOVER, FORGET, MARKS, PRINT, IGNORED };
+
+/* The options, which may stand before FILE, or with --print. The ignored ones are of other editors: no new window, wait for the end. */
+static const struct {
+    const char *name;
+    enum option option;
+    bool is_edit, is_print, has_value;
+} options[] = {{"--direction", DIRECTION, true, true, true}, {"--line", LINE, true, false, true},
+               {"--to", OTHER, true, false, true}, {"--cols", COLUMNS, false, true, true},
+               {"--force", FORCED, true, false, false}, {"-n", UNKEPT, true, false, false},
+               {"--no-joining", UNJOINED, true, true, false}, {"--no-mouse", NO_MOUSE, true, false, false},
+               {"--no-clipboard", NO_CLIPBOARD, true, false, false}, {"--recover", RECOVER, true, false, false},
+               {"--forget", FORGET, true, false, false}, {"--marks", MARKS, false, true, false},
+               {"--print", PRINT, true, false, false}, {"-f", IGNORED, true, false, false},
+               {"-w", IGNORED, true, false, false}, {"-nw", IGNORED, true, false, false},
+               {"--nofork", IGNORED, true, false, false}, {"--wait", IGNORED, true, false, false}};
 
 /* Reads a number; one that is too large names the last line. Returns false if there is another character, or none. */
 static bool line_of_digits(const char *digits, size_t count, unsigned long *line) {
@@ -72,178 +89,128 @@ static bool line_of_digits(const char *digits, size_t count, unsigned long *line
     return count > 0;
 }
 
-/* The first line needs no option, and 0 names it too. */
-static unsigned long line_option(unsigned long line) {
-    return line <= 1 ? 0 : line;
+/* Puts the value of an option in the call, or refuses it. The first line needs no option, and 0 names it too. */
+static void take_value(struct reading *reading, enum option option, const char *value) {
+    struct call *call = reading->call;
+    unsigned long number = 0;
+    size_t direction = 0;
+    bool is_number = line_of_digits(value, strlen(value), &number);
+    switch (option) {
+    case DIRECTION:
+        while (direction <= DIRECTION_RTL && strcmp(value, directions[direction]) != 0) direction++;
+        if (direction > DIRECTION_RTL) reading->cause = text_of("--direction needs auto, ltr or rtl, not %s", shown(value));
+        else call->direction = (enum direction)direction;
+        break;
+    case LINE:
+        if (!is_number) reading->cause = text_of("--line needs a number, not %s", shown(value));
+        call->line = number <= 1 ? 0 : number;
+        break;
+    case COLUMNS:
+        if (!is_number || strlen(value) > 3 || number < 1 || number > LARGEST_SIDE)
+            reading->cause = text_of("--cols needs a number from 1 to 500, not %s", shown(value));
+        call->columns = (unsigned)number;
+        break;
+    default:
+        if (!*value) reading->cause = "the name of OTHER is empty";
+        reading->other = value;
+        break;
+    }
+}
+
+/* Takes an option without a value. What precedes --print counts, but for --to. */
+static void take_switch(struct reading *reading, enum option option) {
+    struct call *call = reading->call;
+    switch (option) {
+    case FORCED: call->is_forced = true; break;
+    case UNKEPT: call->is_unkept = true; break;
+    case UNJOINED: call->is_unjoined = true; break;
+    case NO_MOUSE: call->has_no_mouse = true; break;
+    case NO_CLIPBOARD: call->has_no_clipboard = true; break;
+    case RECOVER: reading->is_recovery = true; break;
+    case FORGET: reading->is_forgetting = true; break;
+    case MARKS: call->has_marks = true; break;
+    case PRINT:
+        reading->is_print = true;
+        reading->other = NULL;
+        break;
+    default: break;
+    }
+}
+
+/* Takes an option, and its value, which is the next word or follows =. Returns how many words it used. */
+static int take_option(struct reading *reading, int count, char *const *words) {
+    size_t length = strcspn(words[0], "=");
+    for (size_t i = 0; i < sizeof options / sizeof *options; i++) {
+        bool is_joined = words[0][length] == '=', has_value = options[i].has_value;
+        if (!(reading->is_print ? options[i].is_print : options[i].is_edit) || strlen(options[i].name) != length) continue;
+        if (strncmp(words[0], options[i].name, length) != 0 || (is_joined && !has_value)) continue;
+        if (!has_value) take_switch(reading, options[i].option);
+        else if (is_joined) take_value(reading, options[i].option, words[0] + length + 1);
+        else if (count < 2) reading->cause = text_of("%s needs a value", options[i].name);
+        else take_value(reading, options[i].option, words[1]);
+        return has_value && !is_joined ? 2 : 1;
+    }
+    reading->cause = text_of(reading->is_print ? "--print does not take %s" : "unknown option %s", shown(words[0]));
+    return 1;
+}
+
+/* Takes what follows + in a word, as other editors take it: nothing for the last line, a number, or a number with a column after
+ * a comma or colon, which is passed over. Another command is ignored. */
+static void take_plus(struct call *call, const char *word) {
+    unsigned long line;
+    if (!*word) call->line = last_line;
+    else if (line_of_digits(word, strcspn(word, ",:"), &line)) call->line = line <= 1 ? 0 : line;
+}
+
+/* Takes FILE's name, of `count` words that are left. A second one, an empty one, and - for standard input are refused; --print reads -. */
+static void take_file(struct reading *reading, const char *word, int count) {
+    if (reading->file) reading->cause = "only one FILE can be given";
+    else if (!reading->is_print && count > 1) reading->cause = "only one FILE can be given, after the options";
+    else if (!*word) reading->cause = "the name of FILE is empty";
+    else if (strcmp(word, "-") == 0 && !reading->is_print)
+        reading->cause = "- is standard input, not a file: write the input to a file, and edit that (./- names a file -)";
+    else reading->file = word;
+}
+
+/* Decides what the options and FILE ask for. */
+static void settle(struct reading *reading) {
+    enum call_kind kind = reading->is_recovery ? CALL_RECOVER : reading->is_forgetting ? CALL_FORGET : CALL_EDIT;
+    if (reading->is_print) kind = CALL_PRINT;
+    else if (reading->is_recovery && reading->is_forgetting) reading->cause = "--recover and --forget cannot be combined";
+    else if (reading->other && reading->file && !reading->is_recovery) reading->cause = "--to needs --recover";
+    if (kind == CALL_RECOVER && !reading->file && !reading->other) kind = CALL_LIST;
+    bool needs_file = kind == CALL_EDIT || kind == CALL_RECOVER || kind == CALL_PRINT || reading->other;
+    if (needs_file && !reading->file && !reading->cause) reading->cause = "FILE is missing";
+    reading->call->kind = kind;
+}
+
+/* Reads the words: options and FILE, with --print in any order, else FILE last. -h, --help and --version end it at once. */
+static void take_words(struct reading *reading, int count, char *const *words) {
+    bool may_be_option = true;
+    for (int taken; count > 0 && !reading->cause; count -= taken, words += taken) {
+        const char *word = words[0];
+        bool is_help = strcmp(word, "-h") == 0 || strcmp(word, "--help") == 0, is_plus = *word == '+' && !reading->is_print;
+        taken = 1;
+        if (!may_be_option || (!is_plus && (*word != '-' || !word[1]))) {
+            take_file(reading, word, count);
+            if (!reading->is_print) may_be_option = false;
+        } else if (strcmp(word, "--") == 0) {
+            may_be_option = false;
+        } else if (is_plus) {
+            take_plus(reading->call, word + 1);
+        } else if (!reading->is_print && (is_help || strcmp(word, "--version") == 0)) {
+            reading->call->kind = is_help ? CALL_HELP : CALL_VERSION;
+            return;
+        } else {
+            taken = take_option(reading, count, words);
+        }
+    }
+    if (!reading->cause) settle(reading);
 }
 
 /* The path that an argument names, with ./ in front if it could be taken for an option. */
 static const char *word_path(const char *word) {
     return *word == '-' || *word == '+' ? text_of("./%s", word) : word;
-}
-
-/* The state of parsing. `cause` is NULL until an argument is refused. */
-struct reading {
-    struct call *call;
-    const char *cause, *file, *other;
-    bool is_recovery, is_forgetting, is_print;
-};
-
-/* The values of options, each put in the call, or refused by setting `cause`, which ends the reading. */
-static void take_direction(struct reading *reading, const char *value) {
-    int direction = direction_of(value);
-    if (direction < 0) reading->cause = text_of("--direction needs auto, ltr or rtl, not %s", shown(value));
-    else reading->call->direction = (enum direction)direction;
-}
-
-/* The value of --line. */
-static void take_line(struct reading *reading, const char *value) {
-    unsigned long line;
-    if (!line_of_digits(value, strlen(value), &line)) reading->cause = text_of("--line needs a number, not %s", shown(value));
-    else reading->call->line = line_option(line);
-}
-
-/* The value of --to. */
-static void take_other(struct reading *reading, const char *value) {
-    if (!*value) reading->cause = "the name of OTHER is empty";
-    reading->other = value;
-}
-
-/* The value of --cols. */
-static void take_columns(struct reading *reading, const char *value) {
-    unsigned long columns = 0;
-    bool is_number = strlen(value) <= 3 && line_of_digits(value, strlen(value), &columns);
-    if (!is_number || columns < 1 || columns > LARGEST_SIDE)
-        reading->cause = text_of("--cols needs a number from 1 to 500, not %s", shown(value));
-    else reading->call->columns = (unsigned)columns;
-}
-
-/* Options with a value, which is the next word or follows =. */
-static const struct valued {
-    const char *name;
-    void (*take)(struct reading *reading, const char *value);
-} edit_values[] = {{"--direction", take_direction}, {"--line", take_line}, {"--to", take_other}, {NULL, NULL}},
-  print_values[] = {{"--cols", take_columns}, {"--direction", take_direction}, {NULL, NULL}};
-
-/* Takes an option with a value. Returns how many arguments it used: 0 if words[0] is none of these options. */
-static int take_valued(struct reading *reading, const struct valued *options, int count, char *const *words) {
-    for (; options->name; options++) {
-        size_t length = strlen(options->name);
-        if (strncmp(words[0], options->name, length) != 0) continue;
-        if (words[0][length] == '=') {
-            options->take(reading, words[0] + length + 1);
-            return 1;
-        }
-        if (words[0][length] != 0) continue;
-        if (count < 2) reading->cause = text_of("%s needs a value", options->name);
-        else options->take(reading, words[1]);
-        return 2;
-    }
-    return 0;
-}
-
-static bool is_any(const char *word, const char *const *names) {
-    for (; *names; names++)
-        if (strcmp(word, *names) == 0) return true;
-    return false;
-}
-
-/* Takes what follows + in a word, as other editors take it: nothing for the last line, a number, or a number with a column after
- * a comma or colon, which is passed over. Another command is ignored. */
-static void take_plus(struct reading *reading, const char *words) {
-    unsigned long line;
-    if (!*words) reading->call->line = last_line;
-    else if (line_of_digits(words, strcspn(words, ",:"), &line)) reading->call->line = line_option(line);
-}
-
-/* Takes an option without a value; returns false if there is no such option. */
-static bool take_option(struct reading *reading, const char *word) {
-    /* no new window, wait for the end: of other editors */
-    static const char *const ignored[] = {"-f", "-w", "-nw", "--nofork", "--wait", NULL};
-    if (strcmp(word, "--force") == 0) reading->call->is_forced = true;
-    else if (strcmp(word, "-n") == 0) reading->call->is_unkept = true;
-    else if (strcmp(word, "--no-joining") == 0) reading->call->is_unjoined = true;
-    else if (strcmp(word, "--no-mouse") == 0) reading->call->has_no_mouse = true;
-    else if (strcmp(word, "--no-clipboard") == 0) reading->call->has_no_clipboard = true;
-    else if (strcmp(word, "--recover") == 0) reading->is_recovery = true;
-    else if (strcmp(word, "--forget") == 0) reading->is_forgetting = true;
-    else if (*word == '+') take_plus(reading, word + 1);
-    else return is_any(word, ignored);
-    return true;
-}
-
-static const char no_file[] = "FILE is missing", several_files[] = "only one FILE can be given", empty_name[] = "the name of FILE is empty",
-                  input_name[] = "- is standard input, not a file: write the input to a file, and edit that (./- names a file -)";
-
-/* Takes FILE's name. A second one, an empty one, and - for standard input are refused. */
-static void take_file(struct reading *reading, const char *word) {
-    if (reading->file) reading->cause = several_files;
-    else if (!*word) reading->cause = empty_name;
-    else if (strcmp(word, "-") == 0) reading->cause = input_name;
-    else reading->file = word;
-}
-
-/* Takes the words after --print: FILE and options, in any order. */
-static void take_print_words(struct reading *reading, int count, char *const *words) {
-    bool is_option = true;
-    reading->is_print = true;
-    reading->other = NULL;
-    reading->call->kind = CALL_PRINT;
-    for (int taken; count > 0 && !reading->cause; count -= taken, words += taken) {
-        const char *word = words[0];
-        bool may_be_option = is_option && word[0] == '-' && word[1] != 0;
-        taken = may_be_option ? take_valued(reading, print_values, count, words) : 0;
-        if (taken > 0) continue;
-        taken = 1;
-        if (!may_be_option) take_file(reading, word);
-        else if (strcmp(word, "--") == 0) is_option = false;
-        else if (strcmp(word, "--marks") == 0) reading->call->has_marks = true;
-        else if (strcmp(word, "--no-joining") == 0) reading->call->is_unjoined = true;
-        else reading->cause = text_of("--print does not take %s", shown(word));
-        /* after --, several names are refused whatever they are */
-        if (!is_option && count > 2 && may_be_option) reading->cause = several_files;
-    }
-    if (!reading->cause && !reading->file) reading->cause = no_file;
-}
-
-/* Decides what the command line asks for, by its options and by what follows them, which should be one FILE or nothing. */
-static void take_files(struct reading *reading, int count, char *const *words) {
-    bool is_lone = count == 0 && !reading->other && reading->is_recovery != reading->is_forgetting;
-    reading->call->kind = !reading->is_recovery ? reading->is_forgetting ? CALL_FORGET : CALL_EDIT : count > 0 ? CALL_RECOVER : CALL_LIST;
-    if (is_lone) return;
-    if (count > 1) reading->cause = "only one FILE can be given, after the options";
-    else if (count == 1 && !*words[0]) reading->cause = empty_name;
-    else if (count == 1 && strcmp(words[0], "-") == 0) reading->cause = input_name;
-    else if (reading->is_recovery && reading->is_forgetting) reading->cause = "--recover and --forget cannot be combined";
-    else if (count == 0) reading->cause = no_file;
-    else if (reading->other && !reading->is_recovery) reading->cause = "--to needs --recover";
-    else reading->file = words[0];
-}
-
-/* Reads the words up to FILE, -- or --print, after which all words are read in another way. -h, --help and --version end it at once. */
-static void take_words(struct reading *reading, int count, char *const *words) {
-    for (int taken; count > 0 && !reading->cause; count -= taken, words += taken) {
-        const char *word = words[0];
-        bool is_help = strcmp(word, "-h") == 0 || strcmp(word, "--help") == 0;
-        if (is_help || strcmp(word, "--version") == 0) {
-            reading->call->kind = is_help ? CALL_HELP : CALL_VERSION;
-            return;
-        }
-        if (strcmp(word, "--print") == 0) {
-            take_print_words(reading, count - 1, words + 1);
-            return;
-        }
-        bool is_end = strcmp(word, "--") == 0;
-        if (is_end || (*word != '+' && (*word != '-' || !word[1]))) {
-            take_files(reading, count - is_end, words + is_end);
-            return;
-        }
-        taken = take_valued(reading, edit_values, count, words);
-        if (taken > 0) continue;
-        taken = 1;
-        if (!take_option(reading, word)) reading->cause = text_of("unknown option %s", shown(word));
-    }
-    if (!reading->cause) take_files(reading, 0, words);
 }
 
 int read_words(int count, char *const *words, struct call *call, const char **cause) {
@@ -260,44 +227,46 @@ int read_words(int count, char *const *words, struct call *call, const char **ca
         *cause = text_of("%s has a name that is not UTF-8: rename it with mv", shown(names[i]));
         return STATUS_FAULT;
     }
-    if (reading.file) call->file = word_path(reading.file);
+    if (reading.file) call->file = reading.is_print && strcmp(reading.file, "-") == 0 ? "/dev/stdin" : word_path(reading.file);
     if (reading.other) call->other = word_path(reading.other);
     return 0;
+}
+
+const char *beginning(const char *path) {
+    char words[1023];
+    FILE *stream = fopen(path, "re");
+    size_t length = stream ? fread(words, 1, sizeof words, stream) : 0;
+    if (stream) fclose(stream);
+    return length > 0 ? text_of("%.*s", (int)length, words) : NULL;
 }
 
 /* The version of Unicode that the first line of DerivedBidiClass.txt names. */
 static const char *unicode_version(const char *classes) {
     static const char before[] = "# DerivedBidiClass-";
-    char line[128] = "";
-    FILE *stream = fopen(classes, "re");
-    if (stream) {
-        if (!fgets(line, sizeof line, stream)) line[0] = 0;
-        fclose(stream);
-    }
-    if (strncmp(line, before, sizeof before - 1) != 0) return "unknown";
+    const char *line = beginning(classes);
+    if (!line || strncmp(line, before, sizeof before - 1) != 0) return "unknown";
     const char *version = line + sizeof before - 1;
     size_t length = strspn(version, "0123456789.");
     while (length > 0 && version[length - 1] == '.') length--;
     return length > 0 ? text_of("%.*s", (int)length, version) : "unknown";
 }
 
-const char *version_text(const char *toolchain, const char *classes) {
-    return text_of("bidi-edit " EDITOR_VERSION "\ntoolchain %s\nUnicode %s\n", toolchain ? toolchain : "unknown", unicode_version(classes));
+const char *version_text(const char *notes, const char *classes) {
+    static const char word[] = "\nversion ";
+    if (!notes || !*notes) notes = "unknown";
+    const char *rest = notes + strcspn(notes, "\n"), *version = strncmp(rest, word, sizeof word - 1) == 0 ? rest + sizeof word - 1 : NULL;
+    size_t length = version ? strcspn(version, "\n") : 0;
+    const char *told = version ? text_of("%.*s", (int)length, version) : EDITOR_VERSION;
+    const char *others = version ? version + length : rest;
+    return text_of("bidi-edit %s\ntoolchain %.*s\nUnicode %s\n%s", told, (int)(rest - notes), notes, unicode_version(classes), *others ? others + 1 : "");
 }
 
 /* ---- the programs' words and Unicode's tables */
 
-/* The folder of Debian's package unicode-data. */
-static const char system_tables[] = "/usr/share/unicode";
-
-/* Whether a plain file is there that can be read. O_NONBLOCK: a pipe of this name does not hold the host up. */
+/* Whether a plain file is there that can be read. */
 static bool is_readable(const char *path) {
     struct stat look;
-    int file = open(path, O_RDONLY | O_NONBLOCK | O_CLOEXEC);
-    if (file < 0) return false;
-    bool is_file = fstat(file, &look) == 0 && S_ISREG(look.st_mode);
-    close(file);
-    return is_file;
+    return stat(path, &look) == 0 && S_ISREG(look.st_mode) && access(path, R_OK) == 0;
 }
 
 /* Looks for Unicode's files in a folder. Returns false if one of the first three is missing; without the other two, letters are not
@@ -310,18 +279,19 @@ static bool find_tables_in(struct tables *tables, const char *folder) {
     tables->mirroring = text_of("%s/BidiMirroring.txt", folder);
     tables->joining = text_of("%s/ArabicShaping.txt", folder);
     tables->characters = text_of("%s/UnicodeData.txt", folder);
+    if (!is_readable(tables->classes) || !is_readable(tables->brackets) || !is_readable(tables->mirroring)) return false;
     if (!is_readable(tables->joining) || !is_readable(tables->characters)) tables->joining = tables->characters = NULL;
-    return is_readable(tables->classes) && is_readable(tables->brackets) && is_readable(tables->mirroring);
+    return true;
 }
 
 const char *find_tables(struct tables *tables, const char *own) {
-    const char *given = getenv("BIDI_EDIT_DATA");
-    if (given && *given) {
-        if (is_utf8(given) && find_tables_in(tables, given)) return NULL;
-        return text_of("BIDI_EDIT_DATA names %s, which lacks DerivedBidiClass.txt, BidiBrackets.txt or BidiMirroring.txt: correct or unset it", shown(given));
-    }
-    if (find_tables_in(tables, system_tables) || find_tables_in(tables, own)) return NULL;
-    return text_of("%s lacks DerivedBidiClass.txt, BidiBrackets.txt or BidiMirroring.txt: install the editor again", shown(own));
+    static const char lacks[] = "lacks DerivedBidiClass.txt, BidiBrackets.txt or BidiMirroring.txt";
+    const char *given = variable("BIDI_EDIT_DATA");
+    if (given && is_utf8(given) && find_tables_in(tables, given)) return NULL;
+    if (given) return text_of("BIDI_EDIT_DATA names %s, which %s: correct or unset it", shown(given), lacks);
+    /* the first is of Debian's package unicode-data */
+    if (find_tables_in(tables, "/usr/share/unicode") || find_tables_in(tables, own)) return NULL;
+    return text_of("%s %s: install the editor again", shown(own), lacks);
 }
 
 void add_word(struct words *words, const char *word) {

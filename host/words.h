@@ -6,7 +6,7 @@
 #include <stddef.h>
 
 /* The editor's version. CHANGELOG.md and docs/bidi_edit.1 name it too, and each session records it. */
-#define EDITOR_VERSION "0.4.0"
+#define EDITOR_VERSION "0.5.0~git"
 
 /* Exit statuses. FAULT: an error, or FILE was refused. NO: the command line was refused, or a question was answered by no or not at
  * all. */
@@ -25,7 +25,7 @@ enum call_kind { CALL_HELP, CALL_VERSION, CALL_PRINT, CALL_LIST, CALL_FORGET, CA
 /* What a command line asks for. */
 struct call {
     enum call_kind kind;
-    /* FILE's path, with ./ before it if it begins as an option; NULL for a list, or to forget all sessions. */
+    /* FILE's path, with ./ before it if it begins as an option; NULL for a list, or to forget all sessions; /dev/stdin to print -. */
     const char *file;
     /* Where a recovered text is stored; NULL to go on with the session. */
     const char *other;
@@ -46,12 +46,16 @@ int read_words(int count, char *const *words, struct call *call, const char **ca
 
 extern const char help_text[];
 
-/* The text of --version, of the toolchain that was noted at the build, if any, and of the file DerivedBidiClass.txt. */
-const char *version_text(const char *toolchain, const char *classes);
+/* The first bytes of a file, at most 1,023; NULL without one, or if it is empty. */
+const char *beginning(const char *path);
+
+/* The text of --version, of what was noted at the build and the installation, if anything, and of the file DerivedBidiClass.txt. The notes
+ * have the toolchain in their first line, and the version with its commit in a line `version X`; their other lines are printed as they are. */
+const char *version_text(const char *notes, const char *classes);
 
 /* ---- where the programs are */
 
-/* Paths of the programs, of the folder with Unicode's tables, and of the file in which the build wrote the toolchain's version.
+/* Paths of the programs, of the folder with Unicode's tables, and of the file with the notes of the build and the installation.
  * Nothing checks that they exist. */
 struct programs {
     char *editor, *printer, *tables, *kit;

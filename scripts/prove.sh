@@ -1,9 +1,9 @@
 #!/bin/sh
-# prove.sh [--anew]: proves and builds all crates by `rt ci`, and then compares: dist/ must be of these sources, and each program in
-# dist/ must be byte for byte the one that was just built. If another version of the toolchain built dist/, a program that differs
-# counts as skipped. With --anew it proves what was proved on this machine before, too. After a run of `rt ci` without
-# failure it notes the programs in out/proved, for make-dist.sh. The last line is 'N passed, M failed' for all of it, and with
-# ', K skipped' what could not be compared. Exit status 1: something failed.
+# prove.sh [--anew]: proves and builds all crates by `rt ci`, and then compares: dist/ must be of these sources, each program in dist/
+# must be byte for byte the one that was just built, and NOTICE must name what is linked. If another version of the toolchain built
+# dist/, a program that differs counts as skipped. With --anew it proves what was proved on this machine before, too. After a run of
+# `rt ci` without failure it notes the programs in out/proved, for make-dist.sh. The last line is 'N passed, M failed' for all of it,
+# and with ', K skipped' what could not be compared. Exit status 1: something failed.
 set -u
 
 top=$(CDPATH='' cd -- "$(dirname -- "$0")/.." && pwd)
@@ -101,11 +101,19 @@ compare_all() {
     for name in $dist_programs; do compare "$name"; done
 }
 
+# Compares NOTICE with the toolchain's records of what is linked, but for the toolchain's own version.
+compare_notice() {
+    rt doc >/dev/null 2>&1 || return 0
+    told=$(sh tools/make-notice.sh "$room/notice" 2>&1 && grep -v '^Toolchain: ' NOTICE | diff - "$room/notice" | grep '^[<>]' | grep -v '^> Toolchain: ')
+    same "NOTICE, by the toolchain's records (tools/make-notice.sh writes it)" "$told" ''
+}
+
 sources=$(sources_digest)
 prove "$@"
 same 'the sources, unchanged meanwhile' "$(sources_digest)" "$sources"
 [ "$failed" != 0 ] || note_proved
 compare_all
+compare_notice
 [ "$failed" = 0 ] || echo 'where dist/ is older than the sources, tools/make-dist.sh makes it anew of what is proved'
 told="$passed passed, $failed failed"
 [ "$skipped" = 0 ] || told="$told, $skipped skipped"

@@ -177,7 +177,7 @@ check_terminal() {
     make_tree
     : >"$folder/told/slow"
     start d
-    wait_for 150 has_line '[1-9] of 10 functions proved'
+    wait_for has_line '[1-9] of 10 functions proved'
     like 'terminal, the line' "$(screen | tail -n 1)" \
         'crate [1-4] of 4, [a-d]: [0-9]* of 10 functions proved; [0-9]* minutes* so far, about [0-9]* to go.*'
     first=$(screen | tail -n 1)
@@ -187,10 +187,10 @@ check_terminal() {
     [ "$(screen | tail -n 1)" != "$first" ]
     report 'terminal, it changes' $? "$first"
     tmux -L "$socket" send-keys -t person C-c
-    wait_for 50 is_over
+    wait_for is_over
     same 'Ctrl-C, status' "$(cat "$folder/status" 2>/dev/null)" 130
     like 'Ctrl-C, the words' "$(screen | tail -n 1)" 'bidi-edit: stopped; what is proved is kept, and the next start continues from there'
-    wait_for 20 none_runs
+    wait_for none_runs
     same 'Ctrl-C, the toolchain is over' "$(processes)" 0
     nothing_left 'Ctrl-C'
     kept=$(find "$folder/tree/crates/a/out/incremental" -type f | wc -l)
@@ -228,12 +228,12 @@ check_killed() {
     make_tree
     : >"$folder/told/slow"
     start d
-    wait_for 100 has_line '[1-9] of 10 functions proved'
+    wait_for has_line '[1-9] of 10 functions proved'
     run
     same 'second start, status' "$status" 1
     like 'second start, the words' "$(cat "$folder/said")" 'bidi-edit: process [0-9]* is already building the editor: wait for it'
     kill -s KILL "$(cat "$folder/tree/out/proving.lock")"
-    wait_for 20 is_over
+    wait_for is_over
     rm -f "$folder/told/slow"
     tmux -L "$socket" kill-session -t person
     run
@@ -268,15 +268,15 @@ check_script() {
     make_checkout
     : >"$folder/told/slow"
     start_script "$folder/note"
-    wait_for 150 has_line '[1-9] of 10 functions proved'
+    wait_for has_line '[1-9] of 10 functions proved'
     tmux -L "$socket" send-keys -t person C-c
-    wait_for 50 is_over
+    wait_for is_over
     same 'script, Ctrl-C' "$(cat "$folder/status" 2>/dev/null)" 130
     like 'script, Ctrl-C: the words' "$(screen | tail -n 1)" 'bidi-edit: stopped; .*'
     tmux -L "$socket" kill-session -t person
     rm -f "$folder/told/slow"
     start_script "$folder/note"
-    wait_for 300 is_over
+    wait_for is_over
     same 'script, built and started' "$(cat "$folder/status" 2>/dev/null)" 0
     same 'script, what was built' "$(screen | grep -c 'bidi-edit: built, after')" 1
     same 'script, not the printing program' "$(grep -c 'begin bidi_print' "$folder/told/log")" 0
@@ -286,7 +286,7 @@ check_script() {
     rm "$folder/tree/crates/bidi_edit/out/bidi_edit"
     printf '#!/bin/sh\nexit 1\n' >"$folder/bin/rt"
     start_script "$folder/note"
-    wait_for 100 is_over
+    wait_for is_over
     same 'script, not built' "$(cat "$folder/status" 2>/dev/null)" 1
     tmux -L "$socket" kill-session -t person
     make_rt

@@ -16,7 +16,7 @@ check_points() {
 
 check_all() { # [--points]
     result=0
-    try judge_save save_judge.c || result=1
+    try judge_save save_judge.c cause.c say.c signals.c util.c || result=1
     # shellcheck disable=SC2046 # names without blanks
     compile driver ../tests/host/save_driver.c $(sources) || return
     python3 -B "$top/tests/host/save_faults.py" "$folder/driver" || result=1

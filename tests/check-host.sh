@@ -12,7 +12,7 @@ top=$(CDPATH='' cd -- "$(dirname "$0")/.." && pwd)
 . "$top/tests/host_checks.sh"
 
 check_frames() {
-    try judge_frames frames.c util.c && python3 -B "$top/tests/host/frame_names.py"
+    try judge_frames frames.c && python3 -B "$top/tests/host/frame_names.py"
 }
 
 check_all() { # WORD..

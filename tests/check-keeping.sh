@@ -12,8 +12,9 @@ top=$(CDPATH='' cd -- "$(dirname "$0")/.." && pwd)
 check_all() { # NAME..
     result=0
     if [ $# = 0 ]; then
-        try judge_keep keep_judge.c || result=1
-        try judge_words say.c words.c || result=1
+        # shellcheck disable=SC2046 # names without blanks
+        try judge_keep $(sources) || result=1
+        try judge_words say.c words.c util.c || result=1
     fi
     python3 -B "$top/tests/host/keeping.py" "$built" "$@" || result=1
     return "$result"

@@ -22,13 +22,16 @@ top=$(cd "$(dirname "$0")/.." && pwd)
 find_programs
 # shellcheck disable=SC2034
 wanted="$*"
-folder=$(mktemp -d)
+folder=$(mktemp -d) || exit 1
+# shellcheck source=tests/own_state.sh
+. "$top/tests/own_state.sh"
+own_state "$folder"
 export XDG_STATE_HOME="$folder/state"
 socket="bx$$"
 passed=0 failed=0 skipped=0
 # Settings of a check for its own sessions; see tests/launcher/person.sh, and for `lines_told` refusals.sh.
 # shellcheck disable=SC2034
-tables='' setup='' cleanup='' redirection='' is_flooded='' lines_told=1
+tables='' setup='' cleanup='' redirection='' rows_told='' is_flooded='' lines_told=1
 trap 'tmux -L "$socket" kill-server 2>/dev/null; rm -rf "$folder"' EXIT
 trap 'exit 1' HUP INT TERM
 chmod 755 "$folder"

@@ -16,6 +16,9 @@ if ! command -v tmux > /dev/null 2>&1; then
 fi
 
 top=$(cd "$(dirname "$0")/.." && pwd)
+# for `wait_for`
+# shellcheck source=tests/report.sh
+. "$top/tests/report.sh"
 # shellcheck source=tests/built.sh
 . "$top/tests/built.sh"
 find_built player
@@ -42,13 +45,13 @@ check() { # NAME HEIGHT WIDTH ROWS CURSOR PICTURES..
         for (i = 1; i < length($0); i += 2)
             printf "\\0%03o", 16 * (index("123456789abcdef", substr($0, i, 1))) + index("123456789abcdef", substr($0, i + 1, 1))
     }')" > "$folder/bytes"
-    printf 'cat "%s/bytes"; sleep 30\n' "$folder" > "$folder/run"
+    printf 'cat "%s/bytes"; sleep 90\n' "$folder" > "$folder/run"
     tmux -u -f /dev/null -L "$socket" new-session -d -s "$name" -x "$width" -y "$height" "sh $folder/run" \; set -g status off
     tmux -L "$socket" resize-window -t "$name" -x "$width" -y "$height" 2> /dev/null
     # until tmux has read the bytes; the pane's own sleep keeps it open
-    sleep 0.4
-    found=$(tmux -u -L "$socket" capture-pane -p -e -t "$name" | sed -e 's/\x1b\[7m/</g' -e 's/\x1b\[\(0\|27\)\?m/>/g' -e 's/\x1b\[[0-9;]*m//g' -e 's/ *$//' | paste -s -d '|' | sed -e 's/|*$//')
-    found_cursor=$(tmux -L "$socket" display-message -p -t "$name" '#{cursor_x},#{cursor_y}')
+    wait_for is_shown "$name" "$rows" "$cursor"
+    sleep 0.2
+    is_shown "$name" "$rows" "$cursor"
     tmux -L "$socket" kill-session -t "$name"
     if [ "$found" = "$rows" ] && [ "$found_cursor" = "$cursor" ]; then
         echo "ok $name"
@@ -57,6 +60,13 @@ check() { # NAME HEIGHT WIDTH ROWS CURSOR PICTURES..
         echo "DIFFERS $name: shows '$found', cursor $found_cursor; expected '$rows', cursor $cursor"
         failed=$((failed + 1))
     fi
+}
+
+# Sets `found` and `found_cursor` to what the pane shows. Its status says whether that is as wanted.
+is_shown() { # NAME ROWS CURSOR
+    found=$(tmux -u -L "$socket" capture-pane -p -e -t "$1" | sed -e 's/\x1b\[7m/</g' -e 's/\x1b\[\(0\|27\)\?m/>/g' -e 's/\x1b\[[0-9;]*m//g' -e 's/ *$//' | paste -s -d '|' | sed -e 's/|*$//')
+    found_cursor=$(tmux -L "$socket" display-message -p -t "$1" '#{cursor_x},#{cursor_y}')
+    [ "$found" = "$2" ] && [ "$found_cursor" = "$3" ]
 }
 
 # a letter of two columns, two of Hebrew, and an e with a mark of its own

@@ -1,7 +1,7 @@
 #!/bin/sh
 # check-session-files.sh [--sanitized] [--points] [NAME..]: checks the files of sessions: a table of decisions, what is kept, found,
-# made again and removed in folders on the disk, and then from outside, with a program for tests in place of the editor, what becomes
-# of a running session whose files others remove. It wants a C compiler and python3, and takes a minute. `--points` also has each
+# told and removed in folders on the disk, and then from outside, with a program for tests in place of the editor, what becomes
+# of a running session whose FILE or folder others rename or remove. It wants a C compiler and python3, and takes a minute. `--points` also has each
 # call of the system fail in turn; `--sanitized` checks a build with AddressSanitizer and UBSan; names select cases from outside, and
 # none of the others. The last line has the totals. Exit status 1: a check failed; 77: there is no python3.
 set -u

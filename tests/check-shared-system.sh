@@ -28,6 +28,9 @@ passed=0 failed=0 skipped=0
 # the folder of all rounds, and the places that are to be unmounted at the end
 room=$(mktemp -d) || exit 1
 mounted=''
+# shellcheck source=tests/own_state.sh
+. "$top/tests/own_state.sh"
+own_state "$room"
 chmod 755 "$room"
 socket=bidi-edit-$$
 clean_up() {
@@ -40,7 +43,7 @@ trap 'exit 1' HUP INT TERM
 
 # Settings of a check for its own sessions; see tests/launcher/person.sh.
 # shellcheck disable=SC2034
-tables='' setup='' cleanup='' redirection='' is_flooded=''
+tables='' setup='' cleanup='' redirection='' rows_told='' is_flooded=''
 # shellcheck source=tests/launcher/person.sh
 . "$top/tests/launcher/person.sh"
 # shellcheck source=tests/launcher/recorder.sh

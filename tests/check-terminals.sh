@@ -1,11 +1,10 @@
 #!/bin/sh
 # check-terminals.sh [--pictures FOLDER] [NAME..]: runs the editor in terminals under Xvfb, types by xdotool and compares pictures:
-# in xterm, urxvt, st, alacritty, terminology, kitty, qterminal, VTE (xfce4-terminal), konsole and mlterm, and in tmux within VTE
-# and konsole; in foot (within weston), tmux and GNU screen within alacritty, and with settings in xterm and mlterm, the mouse and
-# copies alone. The editor's picture must equal the picture of `cat` on the same rows (not in qterminal nor in kitty as it is, which
-# mirror words), also of joined Arabic letters, and the shell's rows must be unchanged afterwards. Keys, selections, undo
-# groups, questions, pastes (with xclip), titles, notes, marks in the last column, and clusters of other widths than counted are
-# checked too; and with xclip or wl-paste what the terminal sends for presses, drags and the wheel, with Shift too, and whether copies
+# in xterm, urxvt, st, alacritty, terminology, kitty, qterminal, VTE (xfce4-terminal), konsole and mlterm; in foot (within weston),
+# tmux and GNU screen within alacritty, and with settings in xterm and mlterm, the mouse and copies alone. The editor's picture must
+# equal the picture of `cat` on the same rows (not in qterminal, which mirrors words), also of joined Arabic letters, and the shell's
+# rows must be unchanged afterwards. Keys, selections, undo groups, questions, pastes (with xclip), titles, marks in the last column,
+# and clusters of other widths than counted are checked too; and with xclip or wl-paste what the terminal sends for presses, drags and the wheel, with Shift too, and whether copies
 # come to the system's clipboard, by a stand-in for the editor, and then what the editor makes of both. That last part is skipped until
 # crates/bidi_edit/out has an editor that knows the option --clipboard. It is not part of `rt ci`. A missing terminal is skipped. `--pictures FOLDER` keeps the pictures
 # (TERMINAL-joined.png has the joined letters); names after it select terminals. The last line has the totals. Exit status 1: a
@@ -37,7 +36,7 @@ if [ "${1:-}" = --pictures ]; then
     shift 2
 fi
 [ $# -gt 0 ] || set -- variables xterm xterm_set urxvt st alacritty alacritty_tmux alacritty_screen terminology kitty \
-    kitty_as_it_is qterminal vte vte_tmux konsole konsole_tmux mlterm mlterm_set foot
+    qterminal vte konsole mlterm mlterm_set foot
 
 passed=0 failed=0 skipped=0
 room=$(mktemp -d) || exit 1

@@ -1,7 +1,10 @@
 # shellcheck shell=sh
 # shellcheck disable=SC2034,SC2154 # words that the scripts give and take
 # For the scripts that check the host. `top` is the repository. Reads the word --sanitized, sets `folder`, which is removed at the
-# end, and builds the host, `built`. Exit status 77: there is no python3; 1: the host does not compile.
+# end and has all state, and builds the host, `built`. Exit status 77: there is no python3; 1: the host does not compile.
+
+# shellcheck source=tests/own_state.sh
+. "$top/tests/own_state.sh"
 
 # Compiles sources, whose paths begin in host/, with --sanitized by AddressSanitizer and UBSan.
 compile() { # NAME SOURCE..
@@ -47,6 +50,7 @@ command -v python3 >/dev/null || {
 folder=$(mktemp -d) || exit 1
 trap 'rm -rf -- "$folder"' EXIT
 trap 'exit 1' HUP INT TERM
+own_state "$folder"
 # shellcheck disable=SC2086 # no word without a kind
 sh "$top/host/build.sh" $build_kind || exit 1
 built=$top/host/out/${build_kind:+$build_kind/}bidi-edit

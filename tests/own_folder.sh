@@ -4,6 +4,8 @@
 # Sets `editor`, the program's path, and `folder`, where the script is from then on. Exit status 77: there is no python3; 1: the
 # program is not built.
 
+# shellcheck source=tests/own_state.sh
+. "$top/tests/own_state.sh"
 # shellcheck source=tests/built.sh
 . "$top/tests/built.sh"
 find_built bidi_edit
@@ -15,4 +17,5 @@ fi
 folder=$(mktemp -d)
 trap 'rm -rf "$folder"' EXIT
 trap 'exit 1' HUP INT TERM
+own_state "$folder"
 cd "$folder" || exit 1

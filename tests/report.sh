@@ -19,13 +19,18 @@ same() { # NAME FOUND WANTED
     if [ "$2" = "$3" ]; then report "$1" 0 ''; else report "$1" 1 "'$2', and not '$3'"; fi
 }
 
-# Waits for a command to succeed, TENTHS of a second at most; tries every tenth. Its status says whether the command succeeded.
-wait_for() { # TENTHS COMMAND..
-    tenths=$1
+# Waits for a command to succeed, for so many minutes at most; tries every tenth of a second. Its status says whether the command succeeded.
+wait_minutes() { # MINUTES COMMAND..
+    tenths=$(($1 * 600))
     shift
     while ! "$@"; do
         tenths=$((tenths - 1))
         [ "$tenths" -gt 0 ] || return 1
         sleep 0.1
     done
+}
+
+# Waits for what takes a moment: only what hangs takes a minute, even on a busy machine.
+wait_for() { # COMMAND..
+    wait_minutes 1 "$@"
 }

@@ -19,36 +19,40 @@ cd "$top" || exit 1
 # Lists the parts, the longest first: a name, the seconds after which it counts as hanging, and the script with its words.
 parts() {
     cat <<'TEXT'
-terminal 480 check-launcher.sh words tables size access refused opening checks printing kill leftovers modes nonblock controlling title outer
-editing 480 check-launcher.sh edit breaks quit long end file line stop install caller paste input keys joining
-saves 480 check-saves.sh --quick
-host 480 check-host.sh
-recovery 480 check-recovery.sh 30
-rows 480 check-print.sh
-sessions 480 check-sessions.sh
-schedules 300 check-schedules.sh
-cases 300 check-cases.sh
-orders 300 check-orders.sh
-edits 300 check-edits.sh 200
-joined-rows 300 check-joined-rows.sh
-statuses 300 check-statuses.sh
-runs 300 check-runs.sh
-files 300 check-files.sh
-session-files 300 check-session-files.sh
-keeping 300 check-keeping.sh
-dist 300 check-dist.sh
-words 300 check-words.sh
+terminal 1500 check-launcher.sh words tables size access refused opening checks printing kill leftovers modes nonblock controlling title outer
+editing 1500 check-launcher.sh edit breaks quit long end file line stop install caller paste input keys joining
+saves 1500 check-saves.sh --quick
+host 1500 check-host.sh
+recovery 1500 check-recovery.sh 30
+rows 1500 check-print.sh
+sessions 1500 check-sessions.sh
+schedules 900 check-schedules.sh
+cases 900 check-cases.sh
+orders 900 check-orders.sh
+edits 900 check-edits.sh 200
+joined-rows 900 check-joined-rows.sh
+statuses 900 check-statuses.sh
+runs 900 check-runs.sh
+files 900 check-files.sh
+session-files 900 check-session-files.sh
+keeping 900 check-keeping.sh
+dist 900 check-dist.sh
+package 1500 check-package.sh
+words 900 check-words.sh
 TEXT
 }
+
+# A user edits meanwhile (tests/host/user.py), and the parts have his home: what they do to his sessions is a failure of the part `user`.
 
 # How many parts run at once.
 lanes=2
 room=$(mktemp -d) || exit 1
-passed=0 failed=0 skipped=0 done=0 running=''
+passed=0 failed=0 skipped=0 done=0 running='' user=''
 
 # Ends what runs.
 stop() {
     for name in $running; do kill -s TERM "$(cat "$room/$name.process")" 2>/dev/null; done
+    [ -z "$user" ] || kill -s TERM "$user" 2>/dev/null
     wait
     rm -rf -- "$room"
 }
@@ -74,6 +78,30 @@ find_programs() {
     done
 }
 
+# Has the user edit, in a home that is from then on the one of all parts, so that they meet his sessions if they can. A line of the file 8
+# is what he waits for.
+begin_user() {
+    command -v python3 >/dev/null || return 0
+    user_begun=$(seconds_now)
+    mkfifo "$room/user.line"
+    exec 8<>"$room/user.line"
+    timeout -k 10 3600 python3 -B tests/host/user.py "$top/bidi-edit" "$room/user" <"$room/user.line" >"$room/user.said" 2>&1 8>&- &
+    user=$!
+    while ! [ -e "$room/user/ready" ] && kill -0 "$user" 2>/dev/null; do sleep 0.1; done
+    export HOME="$room/user/home" XDG_STATE_HOME="$room/user/home/.local/state"
+}
+
+# Tells what became of the user's sessions, as of a part.
+end_user() {
+    [ -n "$user" ] || return 0
+    echo >&8
+    status=0
+    wait "$user" || status=$?
+    user=''
+    echo "$status $(($(seconds_now) - user_begun)) 3600" >"$room/user.end"
+    finish user
+}
+
 seconds_now() {
     date +%s
 }
@@ -83,7 +111,7 @@ run_part() { # NAME SECONDS SCRIPT WORD..
     name=$1 most=$2 script=$3
     shift 3
     begun=$(seconds_now)
-    timeout -k 10 "$most" sh "$top/tests/$script" "$@" >"$room/$name.said" 2>&1 </dev/null &
+    timeout -k 10 "$most" sh "$top/tests/$script" "$@" >"$room/$name.said" 2>&1 </dev/null 8>&- &
     child=$!
     trap 'kill -s TERM "$child" 2>/dev/null; wait "$child"; exit 1' TERM
     status=0
@@ -190,12 +218,14 @@ hide_toolchain
 find_programs
 # compiled once, before two parts need it at the same time
 sh host/build.sh
+begin_user
 while read -r line; do
     # shellcheck disable=SC2086 # split into words
     start $line
     wait_below "$lanes"
 done <"$room/parts"
 wait_below 1
+end_user
 tell_mutants
 echo "in $(($(seconds_now) - started)) s:"
 told="$passed passed, $failed failed"

@@ -1,4 +1,4 @@
-"""Measures a run of a command, for check-noise.sh: run_measured.py LIMIT FILE COMMAND..
+"""Measures a run of a command, for check-noise.sh and check-recovery.sh: run_measured.py LIMIT FILE COMMAND..
 
 FILE gets its status, its processor time in seconds, of which LIMIT is the most, and its peak memory in megabytes.
 """

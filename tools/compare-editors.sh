@@ -6,7 +6,8 @@
 #
 # A figure is the median of the rounds: milliseconds until the last byte of the new screen, then after a slash the milliseconds
 # of processor time of the editor and its child processes. Of the letters and pages of a round the former is the median, the
-# latter the mean. Exit status 77: bidi_edit is not built, there is no python3, or none of the others is installed.
+# latter the mean. Exit status 77: bidi_edit is neither built nor in dist/ of these sources, there is no python3, or none of the others
+# is installed.
 set -eu
 export LC_ALL=C.UTF-8
 
@@ -24,28 +25,12 @@ case $#:${1:-} in
     exit 2
     ;;
 esac
-if ! [ -x "$top/crates/bidi_edit/out/bidi_edit" ]; then
-    echo 'skipped: the program is not built (./bidi-edit FILE builds it)'
-    exit 77
-fi
-if ! command -v python3 >/dev/null 2>&1; then
-    echo 'skipped: there is no python3'
-    exit 77
-fi
-found=bidi_edit
-for editor in emacs vim nano joe; do
-    if command -v "$editor" >/dev/null 2>&1; then found="$found $editor"; fi
-done
+peers='emacs vim nano joe'
+# shellcheck source=tools/measuring.sh
+. "$top/tools/measuring.sh"
 if [ "$found" = bidi_edit ]; then
     echo 'skipped: none of emacs, vim, nano and joe is installed'
     exit 77
 fi
-
-folder=$(mktemp -d)
-trap 'rm -rf "$folder"' EXIT
-trap 'exit 1' HUP INT TERM
-# the user's configuration and sessions are not used
-export HOME="$folder/home" TERM=xterm
-unset XDG_STATE_HOME XDG_CONFIG_HOME XDG_DATA_HOME XDG_CACHE_HOME TMUX STY VIMINIT EXINIT
 # shellcheck disable=SC2086 # split into words
-python3 -B "$top/tools/compare_editors.py" $quick ${1:+--rounds "$1"} "$top/bidi-edit" "$folder" $found
+python3 -B "$top/tools/compare_editors.py" $quick ${1:+--rounds "$1"} "$editor" "$folder" $found

@@ -1,8 +1,8 @@
 #!/bin/sh
 # install.sh [--uninstall] [PREFIX]: installs the host, the programs, the tables and the manual page under PREFIX, by default
-# $HOME/.local, or removes them. It takes the programs that are built in crates/, or, where the editor is not, those of dist/, if they
-# belong to the sources. It compiles the host where a source is newer, and proves nothing. Exit status 1: neither is there, or there
-# is no C compiler for the host. The installation is independent of this repository.
+# $HOME/.local, or removes them; tools/package/tree.sh lists the files. It takes the programs that are built in crates/, or, where the
+# editor is not, those of dist/, if they belong to the sources. It compiles the host where a source is newer, and proves nothing. Exit
+# status 1: neither is there, or there is no C compiler for the host. The installation is independent of this repository.
 #
 # All files are first copied beside their places, so that a failed copy changes nothing; then each is renamed into place. A
 # record, lib/bidi_edit/installed, has the checksum of each file and the folders that were created: only these are removed.
@@ -11,16 +11,27 @@ umask 022
 export LC_ALL=C CDPATH=''
 
 top=$(CDPATH='' cd -- "$(dirname -- "$0")/.." && pwd)
-# shellcheck source=tools/launcher/dist.sh
-. "$top/tools/launcher/dist.sh"
+# shellcheck source=tools/package/tree.sh
+. "$top/tools/package/tree.sh"
 
-# Sets `is_removal`, `prefix`, `lib` and `record`.
+refuse() { # CAUSE
+    printf 'install.sh: %s\n' "$1" >&2
+    exit 1
+}
+
+# Sets `is_removal`, `prefix`, `lib` and `record`. The option may stand before PREFIX or after it.
 read_words() { # WORD..
     is_removal=''
-    if [ "${1:-}" = --uninstall ]; then
+    case $#:${1:-}:${2:-} in
+    1:--uninstall: | 2:--uninstall:*)
         is_removal=1
         shift
-    fi
+        ;;
+    2:*:--uninstall)
+        is_removal=1
+        set -- "$1"
+        ;;
+    esac
     case $#:${1:-} in
     [01]: | 1:[!-]*) ;;
     *)
@@ -28,68 +39,20 @@ read_words() { # WORD..
         exit 2
         ;;
     esac
-    prefix=${1:-${HOME:?}/.local}
+    [ -n "${1:-}" ] || [ -n "${HOME:-}" ] || refuse 'HOME is not set: name a PREFIX'
+    prefix=${1:-$HOME/.local}
     lib=$prefix/lib/bidi_edit
     record=$lib/installed
 }
 
-refuse() { # CAUSE
-    printf 'install.sh: %s\n' "$1" >&2
-    exit 1
-}
-
 # ---- the installed files
 
-# Whether this program is built in crates/.
-is_built() { # NAME
-    [ -x "$top/crates/$1/out/$1" ]
-}
-
-# Sets `programs` and `host` to those built here, with the printing program if it is built. `start` stays empty.
-take_built() {
-    host=$top/host/out/bidi-edit
-    sh "$top/host/build.sh" || refuse "$(shown "$host") is not built"
-    programs=''
-    for name in bidi_edit bidi_print; do
-        ! is_built "$name" || programs="$programs $name"
-    done
-    start=''
-}
-
-# The same, to those of dist/, and `start` to their folder.
-take_ready() {
-    find_start thoroughly || refuse "${cause:-there is no dist/ to take them from}; tools/launcher/proving/prove.sh . bidi_edit builds the editor"
-    programs='bidi_edit bidi_print' host=$start/bin/bidi-edit
-}
-
 find_programs() {
-    if is_built bidi_edit; then take_built; else take_ready; fi
-}
-
-# Copies a file into the new tree, in the folder `beside` of `put_there`, with these permissions, whatever its source's and the
-# umask are.
-take() { # MODE SOURCE PATH
-    mkdir -p -- "$beside/tree/${3%/*}"
-    cp -- "$2" "$beside/tree/$3"
-    chmod "$1" "$beside/tree/$3"
-}
-
-# Copies all files into the new tree; `exchange` renames them into place later.
-copy_all() {
-    for program in $programs; do
-        built=$top/crates/$program/out/$program
-        [ -z "$start" ] || built=$start/lib/bidi_edit/$program
-        take 755 "$built" "lib/bidi_edit/$program"
-    done
-    take 755 "$host" bin/bidi-edit
-    for table in DerivedBidiClass BidiBrackets BidiMirroring ArabicShaping UnicodeData; do take 644 "$top/data/$table.txt" "share/bidi_edit/$table.txt"; done
-    take 644 "$top/docs/bidi_edit.1" share/man/man1/bidi_edit.1
-    echo '.so man1/bidi_edit.1' >"$beside/tree/share/man/man1/bidi-edit.1"
-    # the toolchain that built the editor, for --version
-    kit=$top/crates/bidi_edit/out/kit
-    [ -z "$start" ] || kit=$start/lib/bidi_edit/kit
-    if [ -z "$start" ] && rt version >"$beside/kit" 2>/dev/null; then kit=$beside/kit; fi
-    [ ! -f "$kit" ] || take 644 "$kit" lib/bidi_edit/kit
+    if is_built bidi_edit; then take_built; return; fi
+    take_ready && return
+    # another status was told
+    [ $? = 1 ] || exit 1
+    refuse "${cause:-there is no dist/ to take them from}; tools/launcher/proving/prove.sh . bidi_edit builds the editor"
 }
 
 # ---- the record: a line `SUM PATH` for each file, `folder PATH` for each folder created, with paths below PREFIX
@@ -111,7 +74,7 @@ is_as_put() { # PATH
 new_folders() {
     while read -r path; do
         case $is_old:$path in
-        1:*/bidi_edit | 1:*/bidi_edit/*) echo "$path" ;;
+        1:*/bidi[_-]edit | 1:*/bidi[_-]edit/*) echo "$path" ;;
         *) [ -d "$prefix/$path" ] || echo "$path" ;;
         esac
     done <"$beside/folders"
@@ -169,11 +132,30 @@ put_there() {
     beside=$(mktemp -d "$prefix/bidi-edit.XXXXXX")
     trap clean_up EXIT
     trap 'exit 1' HUP INT TERM
-    copy_all
+    fill_tree "$beside/tree"
     write_record
     check_places
     exchange
     printf '%s\n' "$(shown "$prefix/bin/bidi-edit")"
+    tell_path
+}
+
+# Says whether the command bidi-edit is found, and whether it is the one that was installed.
+# shellcheck disable=SC2016 # for the user's shell
+tell_path() {
+    places=$(CDPATH='' cd -- "$prefix/bin" && pwd)
+    case :$PATH: in
+    *":$places:"* | *":$prefix/bin:"*)
+        found=$(command -v bidi-edit) || found=''
+        # shellcheck disable=SC3013 # dash, bash and busybox have it
+        if [ "$found" -ef "$prefix/bin/bidi-edit" ]; then
+            echo 'bidi-edit FILE starts it'
+        else
+            echo "its folder is on PATH, but another bidi-edit comes first: $(shown "$found")"
+        fi
+        ;;
+    *) printf 'its folder is not on PATH: start it by its path, or add a line to ~/.profile: PATH=$PATH:%s\n' "$(shown "$places")" ;;
+    esac
 }
 
 # ---- removal

@@ -23,7 +23,7 @@ check_compiler() { # NAME
     mv "$tree/host/new.c" "$tree/host/main.c"
     start PATH="$folder/path"
     same "$1, none, and another host" "$status $(cat "$folder/said")" \
-        '1 bidi-edit: there is no C compiler, and the host in dist/ was not built from the sources in host/: install a compiler (on Debian, apt install gcc libc6-dev)'
+        '1 bidi-edit: there is no C compiler, and the host in dist/ was not built from the sources in host/: install a compiler (on Debian, apt install gcc libc6-dev), or undo what was changed in host/ (git status shows it)'
     rm -r "$tree/out"
     start PATH="$folder/path"
     same "$1, the same at the first start" "$status $(grep -c 'there is no C compiler' "$folder/said")" '1 1'
@@ -68,10 +68,16 @@ check_killed() { # NAME
     nothing_beside "$1" "$tree/out" start
 }
 
-# Runs a start as a user who cannot write the checkout.
-start_other() { # [VARIABLE=VALUE..]
-    if [ "$(id -u)" = 0 ]; then set -- setpriv --reuid 65534 --regid 65534 --clear-groups env "$@"; else set -- env "$@"; fi
-    "$@" PATH="$folder/bin:$PATH" HOME="$folder/other_home" "$tree/bidi-edit" note >"$folder/said" 2>&1 </dev/null
+# Runs a start as a user who cannot write the checkout, with a home unless the first of env's WORDS takes it away.
+start_other() { # WORD..
+    [ "${1:-}" = -u ] || set -- HOME="$folder/other_home" "$@"
+    set -- env "$@"
+    other_user=$(id -u)
+    if [ "$other_user" = 0 ]; then
+        other_user=65534
+        set -- setpriv --reuid 65534 --regid 65534 --clear-groups "$@"
+    fi
+    "$@" PATH="$folder/bin:$PATH" "$tree/bidi-edit" note >"$folder/said" 2>&1 </dev/null
     status=$?
 }
 
@@ -108,8 +114,38 @@ check_unwritable() { # NAME
     start_other XDG_CACHE_HOME="$folder/other_home/own"
     same "$1, XDG_CACHE_HOME" "$status $(ls "$folder/other_home/own/bidi_edit")" "0 $digest
 $digest.lock"
+    check_homeless "$1"
+    check_old "$1"
     same "$1, nothing in the checkout" "$([ -e "$tree/out" ] && echo out)" ''
     chmod -R u+w "$tree"
+}
+
+# Without a home that can be written, the programs are in a folder of the user's own among the temporary files.
+check_homeless() { # NAME
+    mkdir -m 777 "$folder/temporary"
+    for home in '' /nonexistent "$tree"; do
+        start_other -u HOME -u XDG_CACHE_HOME TMPDIR="$folder/temporary" ${home:+HOME="$home"}
+        runs "$1, the home '${home#"$folder"/}'"
+        same "$1, the home '${home#"$folder"/}': where" "$(cd "$folder/temporary" && echo *) $(find "$folder/temporary" -mindepth 1 -maxdepth 1 -perm 700 | wc -l)" \
+            "bidi_edit.start.$other_user 1"
+        rm -rf "$folder/temporary"/*
+    done
+}
+
+# Of the folders of several checkouts, the last three stay.
+check_old() { # NAME
+    mkdir -p "$folder/other_home/old/bidi_edit/notes"
+    for number in 1 2 3 4 5; do
+        old=$(printf '%064d' "$number")
+        mkdir -p "$folder/other_home/old/bidi_edit/$old/lib/bidi_edit"
+        : >"$folder/other_home/old/bidi_edit/$old.lock"
+        touch -d "2020-01-0$number" "$folder/other_home/old/bidi_edit/$old/lib/bidi_edit/SOURCES"
+    done
+    [ "$(id -u)" != 0 ] || chown -R 65534:65534 "$folder/other_home/old"
+    start_other XDG_CACHE_HOME="$folder/other_home/old"
+    runs "$1, among others"
+    same "$1, the last three stay, and what is no such folder" "$(cd "$folder/other_home/old/bidi_edit" && printf '%s\n' * | sort | paste -s -d ' ')" \
+        "$(printf '%s\n' "$(printf '%064d' 4)" "$(printf '%064d' 4).lock" "$(printf '%064d' 5)" "$(printf '%064d' 5).lock" "$digest" "$digest.lock" notes | sort | paste -s -d ' ')"
 }
 
 # A disk that has room for a part: a small file system in a name space of its own.

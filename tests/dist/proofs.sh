@@ -19,29 +19,49 @@ check_found() { # NAME
     same "$1, a changed proof: rt is asked" "$(cat "$TOLD/calls")" run
     same "$1, a program that dist/ has not" "$(found unused)" ''
     same "$1, a program that dist/ has not: rt is asked" "$(cat "$TOLD/calls")" run
+    fresh_tree
+    check_measuring "$1"
+}
+
+# The scripts that measure other editors too take the ready programs. Here they go no further, since there is no Python.
+check_measuring() { # NAME
+    make_path python3
+    for script in compare-editors time-pastes; do
+        same "$1, $script.sh" "$(PATH=$folder/path sh "$tree/tools/$script.sh" 2>&1)" 'skipped: there is no python3'
+    done
+    echo '// more' >>"$tree/crates/low/src/main.rt"
+    same "$1, of changed sources" "$(PATH=$folder/path sh "$tree/tools/time-pastes.sh" 2>&1)" \
+        'skipped: the program is not built, and the sources are not those that dist/ was built from (./bidi-edit FILE builds it)'
 }
 
 check_installing() { # NAME
     (cd "$tree" && sh tools/install.sh "$folder/installed") >"$folder/said" 2>&1
-    same "$1, status" "$? $(cat "$folder/said")" "0 $folder/installed/bin/bidi-edit"
+    same "$1, status" "$? $(head -n 1 "$folder/said")" "0 $folder/installed/bin/bidi-edit"
     same "$1, it runs" "$("$folder/installed/bin/bidi-edit" note | paste -s -d '|')" 'host note|bidi_edit runs'
-    same "$1, the toolchain" "$(cat "$folder/installed/lib/bidi_edit/kit")" 'a toolchain'
+    same "$1, what it notes" "$(sed 's/ [0-9a-f]\{64\}$/ SUM/' "$folder/installed/lib/bidi_edit/kit" | paste -s -d '|')" \
+        "a toolchain|version $base_version|programs of dist/|sources of dist/ SUM"
     echo '// more' >>"$tree/crates/low/src/main.rt"
     (cd "$tree" && sh tools/install.sh "$folder/elsewhere") >"$folder/said" 2>&1
     same "$1, changed sources" "$? $(grep -c 'the sources are not those that dist/ was built from' "$folder/said") $(ls "$folder/elsewhere" 2>/dev/null)" '1 1 '
     check_installing_built "$1"
 }
 
-# Installs what is built in crates/, with a toolchain that cannot be run, whose version was noted at the build or was not.
-check_installing_built() { # NAME
-    build_all
+# Makes a folder with a toolchain that cannot be run.
+make_broken_kit() {
     mkdir -p "$folder/none"
     printf '#!/bin/sh\nexit 1\n' >"$folder/none/rt"
     chmod +x "$folder/none/rt"
+}
+
+# Installs what is built in crates/, with a toolchain that cannot be run, whose version was noted at the build or was not.
+check_installing_built() { # NAME
+    build_all
+    make_broken_kit
     for note in '' 'a noted toolchain'; do
         [ -z "$note" ] || echo "$note" >"$tree/crates/bidi_edit/out/kit"
         (cd "$tree" && PATH=$folder/none:$PATH sh tools/install.sh "$folder/built") >"$folder/said" 2>&1
-        same "$1, built here${note:+, $note}" "$? $(cat "$folder/said") $(cat "$folder/built/lib/bidi_edit/kit" 2>/dev/null)" "0 $folder/built/bin/bidi-edit $note"
+        same "$1, built here${note:+, $note}" "$? $(head -n 1 "$folder/said") $(sed 's/ [0-9a-f]\{64\}$/ SUM/' "$folder/built/lib/bidi_edit/kit" | paste -s -d '|')" \
+            "0 $folder/built/bin/bidi-edit ${note:-unknown}|version $base_version|programs built here, the same as in dist/|sources of dist/ SUM"
     done
 }
 

@@ -28,7 +28,7 @@ END
 # Programs that are scripts. The host is in C, and prints its words and what the editor beside it prints.
 make_repository() {
     mkdir -p "$folder/first/crates" "$folder/first/host" "$folder/first/data" "$folder/first/docs" "$folder/first/dist" "$folder/first/tests" "$TOLD/built"
-    cp -R "$here/../bidi-edit" "$folder/first/"
+    cp -R "$here/../bidi-edit" "$here/../NOTICE" "$here/../CHANGELOG.md" "$folder/first/"
     cp "$here/../host/build.sh" "$folder/first/host/"
     cp "$here/../data/"*.txt "$folder/first/data/"
     cp "$here/../docs/bidi_edit.1" "$folder/first/docs/"
@@ -47,6 +47,9 @@ make_repository() {
     done
     make_host_source "$folder/first/host/main.c" host
     : >"$folder/first/host/main.h"
+    # the version of sources outside a commit
+    # shellcheck disable=SC2034 # of the other parts
+    base_version=$(sed -n 's/^## \([0-9.]*\), unreleased$/\1~git/p; t; s/^## \([0-9.]*\), .*/\1/p' "$here/../CHANGELOG.md" | head -n 1)
     tree=$folder/first
     build_all
     (cd "$tree" && PATH=$folder/bin:$PATH sh tools/make-dist.sh >/dev/null) || echo 'dist/ is not made'

@@ -35,19 +35,18 @@ no_rattle_runs() {
     [ "$(rattle_runs)" -eq 0 ]
 }
 
-# Ctrl-C amid a proof ends all processes and keeps what was proved, and a start goes on with it. 3000 tenths of a second and 1800
-# seconds are limits for a busy machine, 100 and 50 tenths for an end.
+# Ctrl-C amid a proof ends all processes and keeps what was proved, and a start goes on with it.
 check_toolchain() {
     number=$(basename "$folder" | tr -d -c '[:alnum:]' | tr '[:upper:]' '[:lower:]')$shell
     a=pa_$number b=pb_$number c=pc_$number d=pd_$number
     make_real_tree
     rm -f "$folder/bin/rt"
     start "$d"
-    wait_for 3000 has_line '[1-9][0-9]* of [0-9]* functions proved'
+    wait_minutes 5 has_line '[1-9][0-9]* of [0-9]* functions proved'
     tmux -L "$socket" send-keys -t person C-c
-    wait_for 100 is_over
+    wait_for is_over
     same 'toolchain, Ctrl-C' "$(cat "$folder/status" 2>/dev/null)" 130
-    wait_for 50 no_rattle_runs
+    wait_for no_rattle_runs
     same 'toolchain, all its processes are over' "$(rattle_runs)" 0
     kept=$(find "$folder/tree/crates/$a/out/incremental" -name '*.Proof.oantt' | wc -l)
     [ "$kept" -gt 0 ]

@@ -9,7 +9,7 @@ cannot be tried raises Skipped.
 A case counts once, under its function's name. There are two exceptions. In check_host.py each look counts, under its `what`, since one run
 of the host answers many questions. In save_points.py the same few cases are tried at thousands of points, and each point counts.
 """
-import os, shutil, subprocess, sys, traceback
+import os, shutil, subprocess, sys, tempfile, traceback
 
 # Processes that check side by side: more than there may be processors, since a case mostly waits.
 JOBS = 6
@@ -124,6 +124,11 @@ def try_case(report, case, scene, is_each_told=False):
         report.tell(*look)
     if check.broken:
         report.tell(check.name, check.broken)
+
+
+def lasting_folder(name):
+    """A new folder that is not in memory, where FILE would get no session."""
+    return tempfile.mkdtemp(prefix=f'{name}.', dir='/var/tmp')
 
 
 def share(script, words, names):

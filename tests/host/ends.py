@@ -1,17 +1,17 @@
-"""Ends at random moments. After each no process is left within five seconds, the terminal's settings are back, and where it takes
+"""Ends at random moments. After each no process is left, the terminal's settings are back, and where it takes
 output the alternate screen, pastes, the mouse, reordering and the modes of Alt and of arrows are as before, with nothing after that."""
 import os, random, re, signal, termios, time
-from terminals import Run
+from terminals import HANG, Run
 
 # What the host writes last: the title is given back, the alternate screen ends.
 TAIL = b'\x1b[23;0t\x1b[?1049l'
-LIMIT = 5  # seconds from what ends the host until all is over (END_MS in host/signals.h, host/watcher.c), and of waits for a screen
+STOP = 5  # seconds for a stop, after which the host is continued all the same: nothing depends on it
 
 # Statuses are as waitpid gives them: a signal's number, or an exit status in the second byte.
 
 # What ends the host, each by its signal. The last two kill it at once, and the watcher restores the terminal.
 SIGNALS = {name: getattr(signal, 'SIG' + name.upper()) for name in (
-    'hup', 'int', 'quit', 'usr1', 'usr2', 'alrm', 'pipe', 'xcpu', 'xfsz', 'vtalrm', 'prof', 'io', 'pwr', 'abrt', 'sys')}
+    'hup', 'int', 'quit', 'usr1', 'usr2', 'alrm', 'xcpu', 'vtalrm', 'prof', 'io', 'pwr', 'abrt', 'sys')}
 KINDS = ['term', 'term-job', 'kill', 'kill-job', 'kill-name', 'kill-program', 'kill-watcher', 'stop', 'closed', 'blocked', *SIGNALS]
 
 
@@ -29,7 +29,7 @@ def restored(output):
              (b'\x1b[?1047h', TAIL, 'screen after a stop')]
     if b'\x1b[?2004h' in output:
         pairs += [(b'\x1b[?2004h', b'\x1b[?2004l', 'pastes'), (b'\x1b[?1002h', b'\x1b[?1002l', 'reports of the mouse'),
-                  (b'\x1b[?1006h', b'\x1b[?1006l', 'their form')]
+                  (b'\x1b[?1006h', b'\x1b[?1006l', 'their form'), (b'\x1b[>4;1m', b'\x1b[>4m', 'modified keys')]
     return wrong + [name for on, off, name in pairs if output.rfind(off) < output.rfind(on)]
 
 
@@ -56,7 +56,7 @@ def send_job(run, number):
 
 def wait_for_child(run, name):
     """The number of the job's child of this name, some time after it is there; 0 if it does not come."""
-    end = time.perf_counter() + LIMIT
+    end = time.perf_counter() + HANG
     while not (child := run.child(name)) and time.perf_counter() < end and run.status is None:
         run.rest(0.001)
     run.rest(random.choice((0, random.uniform(0, 0.05))))
@@ -97,7 +97,7 @@ def stop_and_go_on(run):
         number = random.choice((signal.SIGSTOP, signal.SIGTSTP))
         send_this(number)
         run.rest(random.uniform(0, 0.03))
-        end = time.perf_counter() + LIMIT
+        end = time.perf_counter() + STOP
         while number == signal.SIGTSTP and state(run.job) != 'T' and time.perf_counter() < end:
             run.rest(0.001)
         if random.random() < 0.5:  # as a shell does
@@ -122,9 +122,9 @@ def is_cooked(run):
 def try_stop(run, wrong):
     """Stops and continues the host, which must paint and be raw again, and quits. Returns as `act` does."""
     seen = stop_and_go_on(run)
-    if not run.pump(LIMIT, b'hello'):
+    if not run.pump(HANG, b'hello'):
         wrong.append('no screen')
-    end = time.perf_counter() + LIMIT
+    end = time.perf_counter() + HANG
     while not is_painted(run, seen) and time.perf_counter() < end:
         run.rest(0.01)
     if not is_painted(run, seen):
@@ -134,7 +134,7 @@ def try_stop(run, wrong):
     if is_cooked(run):
         wrong.append('not raw after the stop')
     before = time.perf_counter()
-    for _ in range(20):  # until it has ended, in case a key is lost
+    for _ in range(HANG * 3):  # until it has ended, in case a key is lost
         run.type(b'\x11')
         if run.pump(0.3):
             break
@@ -188,7 +188,7 @@ def act(kind, run, wrong):
 def kill_by_name(run):
     """Kills what `killall -9 bidi-edit` finds among the run's processes: by the name of the process, or of its file in its command
     line, as killall of busybox does. The host has another name for the moment of its watcher's birth. Returns when that was done."""
-    end = time.perf_counter() + LIMIT
+    end = time.perf_counter() + HANG
     while time.perf_counter() < end:
         before, is_killed = time.perf_counter(), False
         for process, (comm, _, _) in run.processes().items():
@@ -207,7 +207,7 @@ def kill_by_name(run):
 
 def kill_watcher(run):
     """Kills the watcher, which harms nothing, and quits. Returns as `act` does."""
-    run.pump(LIMIT, b'hello')
+    run.pump(HANG, b'hello')
     watcher = run.child('bidi-watcher')
     if watcher:
         send(watcher, signal.SIGKILL)
@@ -222,11 +222,11 @@ def try_once(tree, kind):
     run = Run([tree.host, tree.new_file('note')], **tree.variables(ways))
     wrong = []
     before, statuses = kill_watcher(run) if kind == 'kill-watcher' else act(kind, run, wrong)
-    if not run.pump(LIMIT):
+    if not run.pump(HANG):
         wrong.append('the host did not end')
     elif statuses and run.status not in statuses and run.status & 0x7F not in statuses:  # bit 0x80 tells of a core dump
         wrong.append(f'status {run.status}')
-    left = run.left(max(0.0, before + LIMIT - time.perf_counter()))
+    left = run.left(HANG)
     took = time.perf_counter() - before
     if left:
         wrong.append(f'left: {left}')

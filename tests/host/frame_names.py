@@ -1,6 +1,5 @@
 """frame_names.py [CRATES]: checks that the crates name the letters of frames, the causes of failed saves and the notices as host/frames.h
-does: `const TYPED: u8 = b'b'` is FRAME_TYPED, the variants of `enum SaveCause` are in the order of enum save_cause, and the digits
-that give `Key::Notice` are the numbers of enum notice. Exit status 1: something differs or is not there."""
+and host/cause.h do: `const TYPED: u8 = b'b'` is FRAME_TYPED, the variants of `enum SaveCause` are the first of enum cause, and the digits that give `Key::Notice` are the numbers of enum notice. Exit status 1: something differs or is not there."""
 import glob, os, re, sys
 from checks import Report, try_case
 
@@ -33,7 +32,8 @@ def names_of_frames(check, sources):
     for path, name, letter in found:
         check.same(f'{name} in {path}', letter, letters[name])
     check.same('letters that no crate has', [name for name in letters if name not in {name for _, name, _ in found}], [])
-    causes = [plain(name.removeprefix('SAVE_')) for name in enum(header, 'save_cause')]
+    causes = [plain(name.removeprefix('CAUSE_')) for name in enum(read(f'{HERE}/../../host/cause.h'), 'cause')]
+    causes = causes[1:causes.index('other') + 1]
     for path, text in sources.items():
         if body := re.search(r'pub enum SaveCause {(.*?)\n}', text, re.S):
             check.same(f'causes in {path}', [plain(name) for name in re.findall(r'^\s*([A-Z]\w+),', body.group(1), re.M)], causes)

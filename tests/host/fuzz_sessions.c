@@ -9,7 +9,9 @@
 #include <sys/stat.h>
 #include <unistd.h>
 
-#include "../../host/parts.h"
+#include "../../host/save.h"
+#include "../../host/session.h"
+#include "../../host/util.h"
 
 int LLVMFuzzerTestOneInput(const uint8_t *bytes, size_t size);
 
@@ -42,6 +44,14 @@ static void try_words(const char *text) {
         require(process_of(words, &process_again) && !may_go_on_elsewhere(&process_again, &process));
     }
     require((mode_of(text) & ~0777U) == 0);
+    static struct about about;
+    char *lines = strdup(text);
+    if (lines && about_read(&about, lines, strlen(lines))) {
+        static char written[MOST_ABOUT];
+        size_t size = about_write(&about, written, sizeof written);
+        require(size > 0 && about_read(&about, written, size) && !about.is_damaged);
+    }
+    free(lines);
 }
 
 static void try_name(const char *name) {
@@ -54,20 +64,11 @@ static void try_name(const char *name) {
 /* A text gives the same whole and in two pieces. */
 static void try_text(const char *text, size_t size) {
     size_t split = size > 0 ? (unsigned char)text[0] % size : 0;
-    struct key_count whole, parts;
-    count_begin(&whole);
-    count_begin(&parts);
+    struct key_count whole = {0}, parts = {0};
     count_more(&whole, text, size);
     count_more(&parts, text, split);
     count_more(&parts, text + split, size - split);
     require(whole.keys == parts.keys && whole.keys <= size);
-    struct line_ends ends, ends_parts;
-    ends_begin(&ends);
-    ends_begin(&ends_parts);
-    ends_more(&ends, text, size);
-    ends_more(&ends_parts, text, split);
-    ends_more(&ends_parts, text + split, size - split);
-    require(ends_are_all_crlf(&ends) == ends_are_all_crlf(&ends_parts));
 }
 
 /* Half of the bytes beside the other half. */
@@ -93,18 +94,19 @@ static void put_bytes(int folder, const char *name, const void *bytes, size_t si
     if (file >= 0 && write_bytes(file, bytes, size) == 0) close(file);
 }
 
-/* Puts the parts into a folder: of each its number, its length, its bytes. */
+/* Puts files into a folder: of each the number of its name, its length, its bytes. */
 static void put_parts(int folder, const uint8_t *bytes, size_t size) {
+    static const char *const names[] = {ABOUT_NAME, TEXT_NAME, JOURNAL_NAME, BACKUP_NAME, STEP_NAME, SNAPSHOT_NAME, "path", "process", "place", "begin"};
     char path[PATH_MAX + 8];
     while (size >= 2) {
-        enum part part = bytes[0] % PARTS;
+        const char *name = names[bytes[0] % (sizeof names / sizeof *names)];
         bool is_of_note = bytes[0] >= 128;
         size_t length = bytes[1] < size - 2 ? bytes[1] : size - 2;
         snprintf(path, sizeof path, "%s/note", top);
         if (is_of_note) {
-            put_bytes(folder, part_name(part), path, strlen(path));
+            put_bytes(folder, name, path, strlen(path));
         } else {
-            put_bytes(folder, part_name(part), bytes + 2, length);
+            put_bytes(folder, name, bytes + 2, length);
         }
         bytes += 2 + length;
         size -= 2 + length;
@@ -118,19 +120,15 @@ static void hear_mending(void *context, const struct mending *mending) {
 
 static void hear_forgotten(void *context, const struct forgotten *forgotten) {
     (void)context;
-    require(forgotten->error == 0);
+    require(!forgotten->cause);
 }
 
 /* Reads all that a start reads of a session that it finds. */
 static void look_at_session(const struct session *session) {
-    struct process process;
-    struct begin begin;
     struct timespec time;
-    session_process(session, &process);
-    session_begin_words(session, &begin);
     session_changed(session, &time);
-    session_mode(session);
     session_count_keys(session);
+    session_damage(session);
     session_kilobytes(session);
 }
 
@@ -153,7 +151,7 @@ static void try_folder(const uint8_t *bytes, size_t size) {
     char path[PATH_MAX + 8];
     make_top();
     int folder = open(top, O_RDONLY | O_DIRECTORY | O_CLOEXEC);
-    sessions_find(&sessions, folder);
+    sessions_find(&sessions);
     require(sessions_make(&sessions));
     mkdirat(sessions.folder, name, 0700);
     int inside = openat(sessions.folder, name, O_RDONLY | O_DIRECTORY | O_CLOEXEC);
@@ -168,18 +166,16 @@ static void try_folder(const uint8_t *bytes, size_t size) {
     walk_end(&walk);
     sessions_mend(&sessions, &target, hear_mending, NULL);
     sessions_of(&found, &sessions, &target);
-    if (!session_is_none(&found.unfinished) && session_lock(&found.unfinished, PART_PATH) == LOCK_TAKEN) {
+    if (!session_is_none(&found.unfinished) && session_lock(&found.unfinished) == LOCK_TAKEN) {
         session_go_on(&found.unfinished, NULL, true);
         session_resume(&found.unfinished, 24, 80);
         session_mind(&found.unfinished);
-        end_child(&found.unfinished);
     }
     found_close(&found);
-    sessions_sweep(&sessions);
     sessions_forget(&sessions, NULL, hear_forgotten, NULL);
     struct session left;
     if (session_at(&left, &sessions, name)) {
-        remove_folder(&left, name);
+        session_erase(&left, name);
         session_close(&left);
     }
     sessions_close(&sessions);

@@ -1,6 +1,6 @@
 /* A harness of libFuzzer for command lines and names. Words are parted by NUL. What is read of them must keep its bounds, each name in
  * a message must be what a shell reads back as the name, and no message may have a byte that a terminal obeys. To build: clang -g
- * -fsanitize=fuzzer,address,undefined -D_GNU_SOURCE tests/host/fuzz_words.c host/words.c */
+ * -fsanitize=fuzzer,address,undefined -D_GNU_SOURCE tests/host/fuzz_words.c host/words.c host/util.c */
 #include "../../host/say.c"
 #include "../../host/words.h"
 
@@ -34,7 +34,7 @@ static void unquote(char *word) {
         else if (!is_quoted) *to++ = *++at;
         else if (!is_numbered) *to++ = *at;
         else {
-            *to++ = (char)((at[1] - '0') << 6 | (at[2] - '0') << 3 | (at[3] - '0'));
+            *to++ = (char)((unsigned)(at[1] - '0') << 6 | (unsigned)(at[2] - '0') << 3 | (unsigned)(at[3] - '0'));
             at += 3;
         }
     }

@@ -1,4 +1,5 @@
-/* Checks frames.c: the queue of frames, and words among other text. Prints the totals; exit status 1: one failed. */
+/* Checks frames.c: frames in pipes, and words among other text. Prints the totals; exit status 1: one failed. */
+#include <errno.h>
 #include <fcntl.h>
 #include <stdio.h>
 #include <string.h>
@@ -14,54 +15,22 @@ static void judge(const char *name, bool is_so) {
     if (!is_so) printf("FAILS %s\n", name);
 }
 
-/* What a queue has, as text: \0 is shown as 0. */
-static const char *shown(const unsigned char *bytes, size_t length) {
-    static char text[256];
-    size_t at = 0;
-    for (; at < length && at + 1 < sizeof text; at++) text[at] = bytes[at] < 10 ? (char)('0' + bytes[at]) : (char)bytes[at];
-    text[at] = 0;
-    return text;
-}
-
-/* What a queue still has to write, as text. */
-static const char *queued(const struct frame_queue *queue) {
-    return shown(queue->bytes + queue->start, queue_length(queue));
-}
-
-/* What a queue takes, in which order, and which sizes it drops. */
-static void judge_queue(void) {
-    static struct frame_queue queue;
-    static const unsigned char first[] = {0, 5, 0, 6}, second[] = {0, 7, 0, 8}, byte = 'y';
-    put_frame(&queue, FRAME_TYPED, "x", 1);
-    put_frame(&queue, FRAME_SIZE, first, sizeof first);
-    put_frame(&queue, FRAME_SIZE, second, sizeof second);
-    judge("a size takes the place of the one before", strcmp(queued(&queue), "b01xz040708") == 0);
-    put_frame(&queue, FRAME_TYPED, &byte, 1);
-    put_frame(&queue, FRAME_SIZE, first, sizeof first);
-    judge("but not of one before typed bytes", strcmp(queued(&queue), "b01xz040708b01yz040506") == 0);
-    queue.start = 16;
-    put_frame(&queue, FRAME_SIZE, second, sizeof second);
-    judge("nor of one that is written in part", strcmp(queued(&queue), "040506z040708") == 0);
-    queue = (struct frame_queue){.start = 0};
-    static unsigned char large[QUEUE_ROOM];
-    judge("a queue takes what it has room for", put_frame(&queue, FRAME_TYPED, large, QUEUE_ROOM - FRAME_HEAD));
-    judge("and no frame more", !put_frame(&queue, FRAME_IDLE, NULL, 0));
-    queue.start = 3;
-    judge("but one more where bytes went", put_frame(&queue, FRAME_IDLE, NULL, 0) && queue_length(&queue) == QUEUE_ROOM);
-    judge("a frame that never fits", !put_frame(&queue, FRAME_TYPED, large, sizeof large));
-}
-
 /* Frames that are written to a pipe, and read from it. */
 static void judge_pipes(void) {
-    static struct frame_queue queue;
-    static unsigned char room[FRAME_MOST], large[FRAME_MOST];
+    static unsigned char room[FRAME_MOST], large[FRAME_PIECE_MOST + 1];
     struct frame frame;
-    int ends[2];
-    if (pipe2(ends, O_CLOEXEC) != 0) return;
-    for (size_t i = 0; i < 5; i++) put_frame(&queue, FRAME_TYPED, large, 3000);
-    judge("a queue is written", write_queue(&queue, ends[1]) && queue_length(&queue) == 0);
-    for (size_t i = 0; i < 5; i++) judge("and read", read(ends[0], room, 3003) == 3003 && find_frame(room, 3003, &frame) == 3003 && frame.letter == 'b');
+    int ends[2], count = 0;
+    if (pipe2(ends, O_CLOEXEC | O_NONBLOCK) != 0) return;
+    while (write_frame(ends[1], FRAME_TYPED, large, FRAME_PIECE_MOST)) count++;
+    judge("a full pipe takes no frame", count > 0 && errno == EAGAIN);
+    for (bool is_whole = true; count > 0 && is_whole; count--) {
+        size_t length = FRAME_HEAD + FRAME_PIECE_MOST;
+        is_whole = read(ends[0], room, length) == (ssize_t)length && find_frame(room, length, &frame) == length && frame.letter == 'b';
+        judge("a frame is written whole", is_whole);
+    }
+    judge("and nothing of another one", read(ends[0], room, sizeof room) < 0 && errno == EAGAIN);
     judge("an empty frame", write_frame(ends[1], FRAME_DONE, NULL, 0) && read(ends[0], room, FRAME_HEAD) == FRAME_HEAD && room[0] == 'k' && room[1] + room[2] == 0);
+    judge("a frame that is too long", !write_frame(ends[1], FRAME_TYPED, large, sizeof large));
     judge("half a frame is none", find_frame((const unsigned char *)"b\0\2x", 4, &frame) == 0);
     close(ends[1]);
     close(ends[0]);
@@ -107,7 +76,6 @@ static void judge_readers(void) {
 }
 
 int main(void) {
-    judge_queue();
     judge_pipes();
     judge_readers();
     printf("%d passed, %d failed\n", passed, failed);

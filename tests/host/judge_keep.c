@@ -1,4 +1,4 @@
-/* Decisions about a session: tables of cases. Compiled with keep_judge.c. Prints the cases that fail and 'N passed, M failed'; exit
+/* Decisions about a session: tables of cases. Compiled with keep_judge.c and cause.c. Prints the cases that fail and 'N passed, M failed'; exit
  * status 1: a case failed. */
 #include <errno.h>
 #include <stdbool.h>
@@ -44,21 +44,6 @@ static const struct {
 
 static const struct {
     const char *name;
-    struct first_facts facts;
-    enum notice notice;
-} firsts[] = {
-    {"usual", {0}, NOTICE_NONE},
-    {"not kept", {.unkept = NOTICE_NO_SPACE}, NOTICE_NO_SPACE},
-    {"not kept, in place", {.unkept = NOTICE_UNKEPT, .is_in_place = true}, NOTICE_UNKEPT},
-    {"not wanted", {.unkept = NOTICE_UNKEPT, .is_unwanted = true}, NOTICE_NONE},
-    {"not wanted, in place", {.unkept = NOTICE_UNKEPT, .is_unwanted = true, .is_in_place = true}, NOTICE_IN_PLACE},
-    {"recovered", {.is_resumed = true, .is_in_place = true}, NOTICE_RECOVERED},
-    {"recovered beside", {.is_resumed = true, .is_aside = true}, NOTICE_RECOVERED_ASIDE},
-    {"in place", {.is_in_place = true}, NOTICE_IN_PLACE},
-};
-
-static const struct {
-    const char *name;
     struct now_facts facts;
     enum notice trouble;
     enum title_note note;
@@ -68,8 +53,8 @@ static const struct {
     {"copied again", {.has_session = true, .keeping = KEEPS_SOON, .told = NOTICE_NO_SPACE}, NOTICE_NO_SPACE, TITLE_LOST},
     {"none wanted", {.is_unwanted = true}, NOTICE_NONE, TITLE_UNKEPT},
     {"none possible", {.told = NOTICE_NOT_PERMITTED}, NOTICE_NOT_PERMITTED, TITLE_UNKEPT},
-    {"text waits for room", {.has_session = true, .keeping = KEEPS_NOT_YET, .error = ENOSPC}, NOTICE_NO_SPACE, TITLE_UNKEPT},
-    {"a part is gone", {.has_session = true, .keeping = KEEPS_NOT_YET, .error = EROFS, .is_filled = true}, NOTICE_READ_ONLY, TITLE_LOST},
+    {"text waits for room", {.has_session = true, .keeping = KEEPS_NOT_YET, .cause = CAUSE_NO_SPACE}, NOTICE_NO_SPACE, TITLE_UNKEPT},
+    {"a part is gone", {.has_session = true, .keeping = KEEPS_NOT_YET, .cause = CAUSE_READ_ONLY, .is_filled = true}, NOTICE_READ_ONLY, TITLE_LOST},
     {"FILE changed", {.has_session = true, .keeping = KEEPS_NOTHING}, NOTICE_UNKEPT, TITLE_UNKEPT},
     {"folder gone", {.has_session = true, .keeping = KEEPS_NOWHERE, .is_filled = true}, NOTICE_FOLDER_GONE, TITLE_LOST},
     {"folder gone, not copied", {.has_session = true, .keeping = KEEPS_NOWHERE}, NOTICE_FOLDER_GONE, TITLE_UNKEPT},
@@ -82,16 +67,6 @@ static const struct {
      {.has_session = true, .keeping = KEEPS, .is_filled = true, .is_journal_lost = true, .journal = NOTICE_UNKEPT, .told = NOTICE_FOLDER_GONE},
      NOTICE_UNKEPT, TITLE_LOST},
     {"kept again", {.has_session = true, .keeping = KEEPS, .is_filled = true, .told = NOTICE_NO_SPACE}, NOTICE_NONE, TITLE_KEPT},
-};
-
-static const struct {
-    enum end_word end;
-    enum left_how how;
-    bool is_refused, may_be_unsaved;
-} hows[] = {
-    {END_SAVED, LEFT_SAVED, false, false}, {END_DROPPED, LEFT_DROPPED, false, false}, {END_UNSAVED, LEFT_UNSAVED, false, true},
-    {END_NONE, LEFT_UNKNOWN, false, true}, {END_INPUT, LEFT_UNKNOWN, false, true},    {END_OUTPUT, LEFT_UNKNOWN, false, true},
-    {END_READS, LEFT_UNKNOWN, false, true}, {END_NONE, LEFT_REFUSED, true, false},
 };
 
 static const struct {
@@ -118,7 +93,8 @@ static const struct {
     {"dropped, secret", {.how = LEFT_DROPPED, .is_there = true, .has_keys = true, .is_filled = true, .is_secret = true}, FATE_WIPED},
     {"dropped, torn, secret", {.how = LEFT_DROPPED, .is_there = true, .has_keys = true, .is_filled = true, .is_secret = true, .is_torn = true},
      FATE_KEPT},
-    {"dropped, parts missing", {.how = LEFT_DROPPED, .is_there = true, .has_keys = true}, FATE_LOST},
+    {"dropped, parts missing", {.how = LEFT_DROPPED, .is_there = true, .has_keys = true}, FATE_REMOVED},
+    {"dropped, torn, parts missing", {.how = LEFT_DROPPED, .is_there = true, .has_keys = true, .is_torn = true}, FATE_LOST},
     {"unsaved, secret", {.how = LEFT_UNSAVED, .is_there = true, .has_keys = true, .is_filled = true, .is_secret = true}, FATE_KEPT},
     {"refused", {.how = LEFT_REFUSED, .is_there = true, .is_filled = true}, FATE_REMOVED},
     {"refused, recovered", {.how = LEFT_REFUSED, .is_there = true, .has_keys = true, .is_filled = true}, FATE_KEPT},
@@ -137,7 +113,8 @@ static void check_all_fates(void) {
         bool is_kept = fate == FATE_KEPT || fate == FATE_DROPPED;
         if (may_be_recovered && is_wanted && fate != FATE_KEPT) wrong++;
         if (is_kept && !left.is_filled) wrong++;
-        if (fate == FATE_REMOVED && (left.is_torn || (left.has_keys && left.how != LEFT_SAVED && !left.is_same))) wrong++;
+        bool is_over = !left.has_keys || left.is_same || left.how == LEFT_SAVED || left.how == LEFT_DROPPED;
+        if (fate == FATE_REMOVED && (left.is_torn || !is_over)) wrong++;
         if (fate == FATE_LOST && left.is_filled) wrong++;
         if ((fate == FATE_WIPED) && !(left.is_secret && left.how == LEFT_DROPPED)) wrong++;
         if ((fate == FATE_GONE) != !left.is_there) wrong++;
@@ -149,27 +126,15 @@ int main(void) {
     for (size_t i = 0; i < sizeof answers / sizeof *answers; i++) same(answers[i].answer, (int)choice_of(answers[i].answer), (int)answers[i].choice);
     for (size_t i = 0; i < sizeof words / sizeof *words; i++) same(words[i].answer, is_word(words[i].answer, words[i].word), words[i].is_word);
     for (size_t i = 0; i < sizeof errors / sizeof *errors; i++) {
-        same("notice", (int)notice_of(errors[i].error), (int)errors[i].notice);
-        same(errors[i].words, strcmp(fault_words(errors[i].error), errors[i].words), 0);
+        same("notice", (int)notice_of(cause_of(errors[i].error)), (int)errors[i].notice);
+        same(errors[i].words, strcmp(fault_words(cause_of(errors[i].error)), errors[i].words), 0);
     }
-    for (size_t i = 0; i < sizeof firsts / sizeof *firsts; i++) same(firsts[i].name, (int)first_notice(&firsts[i].facts), (int)firsts[i].notice);
     for (size_t i = 0; i < sizeof nows / sizeof *nows; i++) {
         same(nows[i].name, (int)trouble_now(&nows[i].facts), (int)nows[i].trouble);
         same(nows[i].name, (int)title_note_of(&nows[i].facts, nows[i].trouble), (int)nows[i].note);
     }
-    for (size_t i = 0; i < sizeof hows / sizeof *hows; i++) {
-        same("how it was left", (int)left_how(hows[i].end, hows[i].is_refused), (int)hows[i].how);
-        same("may be unsaved", may_be_unsaved(hows[i].how), hows[i].may_be_unsaved);
-    }
     for (size_t i = 0; i < sizeof fates / sizeof *fates; i++) same(fates[i].name, (int)fate_of(&fates[i].left), (int)fates[i].fate);
     check_all_fates();
-    same("a short journal", is_replayed_at_end(20000, true), true);
-    same("a long journal, after a signal", is_replayed_at_end(20001, true), false);
-    same("a long journal", is_replayed_at_end(20001, false), true);
-    same("the longest journal", is_replayed_at_end(200001, false), false);
-    same("a private file", (int)mask_for(0600), 077);
-    same("a file of all", (int)mask_for(0777), 0);
-    same("a file of a group", (int)mask_for(0640), 037);
     printf("%d passed, %d failed\n", passed, failed);
     return failed > 0;
 }

@@ -3,6 +3,7 @@
 #include <stdio.h>
 #include <string.h>
 
+#include "../../host/cause.h"
 #include "../../host/save_judge.h"
 
 static int passed, failed;
@@ -54,14 +55,12 @@ static const struct {
 
 /* The facts that these letters stand for; see `places`. */
 static struct facts facts_of(const char *letters) {
-    struct facts facts = {.readable = true, .searchable = true};
-    facts.writable = strchr(letters, 'w');
+    struct facts facts = {.writable = strchr(letters, 'w')};
     facts.is_held_by_folder = strchr(letters, 'k');
     facts.is_mount = strchr(letters, 'm');
-    facts.has_access_list = strchr(letters, 'l');
+    facts.access_list = strchr(letters, 'l') ? YES : strchr(letters, '?') ? UNKNOWN : NO;
     facts.gives_access_lists = strchr(letters, 'g');
     facts.has_label = strchr(letters, 's');
-    facts.is_unsure = strchr(letters, '?');
     return facts;
 }
 
@@ -109,40 +108,40 @@ static const struct {
 /* The permissions of a new file, by what of the old one was taken over. */
 static void check_modes(void) {
     for (size_t i = 0; i < sizeof modes / sizeof *modes; i++) {
-        struct taken taken = {.owner = strchr(modes[i].taken, 'o'), .group = strchr(modes[i].taken, 'g'), .is_plain = strchr(modes[i].taken, 'p')};
-        check(modes[i].name, (long)mode_of_new(taken, modes[i].old), (long)modes[i].wanted);
+        bool has_owner = strchr(modes[i].taken, 'o'), has_group = strchr(modes[i].taken, 'g') && strchr(modes[i].taken, 'p');
+        check(modes[i].name, (long)mode_of_new(modes[i].old, has_owner, has_group), (long)modes[i].wanted);
     }
 }
 
 /* ---- file stamps */
 
-/* The letter tells what another program did to the file that was seen: see `change`. The third word: what is found, as it is, and
- * if FILE is assumed changed; and whether an exchange took out what was seen. */
+/* The letter tells what another program did to the file that was seen: see `change`. `wanted`: what is found; and whether an exchange took
+ * out what was seen. */
 static const struct {
     const char *name;
+    enum cause wanted;
     char change;
-    enum stamp_verdict wanted, assumed_changed;
     bool is_taken_out;
 } changes[] = {
-    {"nothing", '=', STAMP_SAME, STAMP_CHANGED, true},
-    {"gone", '-', STAMP_GONE, STAMP_GONE, false},
-    {"another device", 'd', STAMP_CHANGED, STAMP_CHANGED, false},
-    {"another inode", 'i', STAMP_CHANGED, STAMP_CHANGED, false},
-    {"another size", 's', STAMP_CHANGED, STAMP_CHANGED, false},
-    {"another second", 't', STAMP_CHANGED, STAMP_CHANGED, false},
-    {"another nanosecond", 'n', STAMP_CHANGED, STAMP_CHANGED, false},
-    {"another time of change", 'c', STAMP_CHANGED, STAMP_CHANGED, true},
-    {"another nanosecond of change", 'C', STAMP_CHANGED, STAMP_CHANGED, true},
-    {"another mode", 'm', STAMP_CHANGED, STAMP_CHANGED, false},
-    {"another owner", 'u', STAMP_CHANGED, STAMP_CHANGED, false},
-    {"another group", 'g', STAMP_CHANGED, STAMP_CHANGED, false},
-    {"another name", 'l', STAMP_CHANGED, STAMP_CHANGED, false},
-    {"read", 'a', STAMP_SAME, STAMP_CHANGED, true},
-    {"a link in its place", 'L', STAMP_CHANGED, STAMP_CHANGED, false},
-    {"a folder in its place", 'D', STAMP_NOT_PLAIN, STAMP_NOT_PLAIN, false},
-    {"a pipe in its place", 'P', STAMP_NOT_PLAIN, STAMP_NOT_PLAIN, false},
-    {"a device in its place", 'V', STAMP_NOT_PLAIN, STAMP_NOT_PLAIN, false},
-    {"a socket in its place", 'S', STAMP_NOT_PLAIN, STAMP_NOT_PLAIN, false},
+    {"nothing", CAUSE_NONE, '=', true},
+    {"gone", CAUSE_NONE, '-', false},
+    {"another device", CAUSE_CHANGED, 'd', false},
+    {"another inode", CAUSE_CHANGED, 'i', false},
+    {"another size", CAUSE_CHANGED, 's', false},
+    {"another second", CAUSE_CHANGED, 't', false},
+    {"another nanosecond", CAUSE_CHANGED, 'n', false},
+    {"another time of change", CAUSE_CHANGED, 'c', true},
+    {"another nanosecond of change", CAUSE_CHANGED, 'C', true},
+    {"another mode", CAUSE_CHANGED, 'm', false},
+    {"another owner", CAUSE_CHANGED, 'u', false},
+    {"another group", CAUSE_CHANGED, 'g', false},
+    {"another name", CAUSE_CHANGED, 'l', false},
+    {"read", CAUSE_NONE, 'a', true},
+    {"a link in its place", CAUSE_CHANGED, 'L', false},
+    {"a folder in its place", CAUSE_NOT_PLAIN, 'D', false},
+    {"a pipe in its place", CAUSE_NOT_PLAIN, 'P', false},
+    {"a device in its place", CAUSE_NOT_PLAIN, 'V', false},
+    {"a socket in its place", CAUSE_NOT_PLAIN, 'S', false},
 };
 
 static void set_kind(struct stat *found, mode_t kind) {
@@ -183,15 +182,14 @@ static void check_changes(void) {
                               .found = {.st_dev = 5, .st_ino = 7, .st_size = 9, .st_mode = S_IFREG | 0640, .st_uid = 1, .st_gid = 2, .st_nlink = 1}};
     for (size_t i = 0; i < sizeof changes / sizeof *changes; i++) {
         struct file_stamp now = change(seen, changes[i].change);
-        check(changes[i].name, judge_stamp(&seen, &now, false), changes[i].wanted);
-        check(changes[i].name, judge_stamp(&seen, &now, true), changes[i].assumed_changed);
+        check(changes[i].name, judge_stamp(&seen, &now), changes[i].wanted);
         check(changes[i].name, is_taken_out(&seen, &now), changes[i].is_taken_out);
     }
     struct file_stamp link = change(seen, 'L');
-    check("a link that was seen", judge_stamp(&link, &link, false), STAMP_SAME);
-    check("a new file", judge_stamp(&nothing, &seen, false), STAMP_CHANGED);
-    check("a new link", judge_stamp(&nothing, &link, false), STAMP_CHANGED);
-    check("still nothing", judge_stamp(&nothing, &nothing, false), STAMP_GONE);
+    check("a link that was seen", judge_stamp(&link, &link), CAUSE_NONE);
+    check("a new file", judge_stamp(&nothing, &seen), CAUSE_CHANGED);
+    check("a new link", judge_stamp(&nothing, &link), CAUSE_CHANGED);
+    check("still nothing", judge_stamp(&nothing, &nothing), CAUSE_NONE);
     check("nothing was seen, and a file is taken out", is_taken_out(&nothing, &seen), false);
 }
 
@@ -201,18 +199,19 @@ static const struct {
     int error, wanted;
 } causes[] = {
     {0, 0},
-    {ENOSPC, SAVE_NO_SPACE},
-    {EDQUOT, SAVE_NO_SPACE},
-    {EPERM, SAVE_NOT_PERMITTED},
-    {EACCES, SAVE_NOT_PERMITTED},
-    {ENOENT, SAVE_FOLDER_GONE},
-    {ENOTDIR, SAVE_FOLDER_GONE},
-    {EROFS, SAVE_READ_ONLY},
-    {EFBIG, SAVE_TOO_LARGE},
-    {ENOMEM, SAVE_OUT_OF_MEMORY},
-    {EIO, SAVE_OTHER},
-    {ESTALE, SAVE_OTHER},
-    {EINVAL, SAVE_OTHER},
+    {ENOSPC, CAUSE_NO_SPACE},
+    {EDQUOT, CAUSE_NO_SPACE},
+    {EPERM, CAUSE_NOT_PERMITTED},
+    {EACCES, CAUSE_NOT_PERMITTED},
+    {ENOENT, CAUSE_FOLDER_GONE},
+    {ENOTDIR, CAUSE_FOLDER_GONE},
+    {EWOULDBLOCK, CAUSE_NOT_PERMITTED},
+    {EROFS, CAUSE_READ_ONLY},
+    {EFBIG, CAUSE_TOO_LARGE},
+    {ENOMEM, CAUSE_OUT_OF_MEMORY},
+    {EIO, CAUSE_OTHER},
+    {ESTALE, CAUSE_OTHER},
+    {EINVAL, CAUSE_OTHER},
 };
 
 int main(void) {

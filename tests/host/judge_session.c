@@ -21,9 +21,9 @@ static void check_words(const char *what, const char *found, const char *wanted)
     check(strcmp(found, wanted) == 0, what, found);
 }
 
-/* ---- short files */
+/* ---- words */
 
-/* The words of the part `begin`: which can be read, as what, and how they are written again. */
+/* The words of the fact `begin`: which can be read, as what, and how they are written again. */
 static void check_begins(void) {
     static const struct {
         const char *words;
@@ -187,28 +187,19 @@ static void check_belongings(void) {
         const char *which;
         struct belonging_facts facts;
         enum belonging belonging;
-        /* it counts where it lives; where it ended */
-        bool live, ended;
     } cases[] = {
-        {"its path", {.has_path = true, .is_path = true, .leads_anywhere = true}, BELONGS_BY_PATH, true, true},
-        {"its path, FILE is gone", {.has_path = true, .is_path = true}, BELONGS_BY_PATH, true, true},
-        {"another name", {.has_path = true, .leads_there = true, .leads_anywhere = true}, BELONGS_BY_NAME, true, true},
-        {"FILE or its folder was renamed", {.has_path = true, .is_file = true}, BELONGS_BY_LOST_FILE, true, true},
-        {"FILE was renamed, another has its name", {.has_path = true, .is_file = true, .leads_anywhere = true}, BELONGS_BY_FILE, true, false},
-        {"another file", {.has_path = true, .leads_anywhere = true}, BELONGS_NOT, false, false},
-        {"another file, gone", {.has_path = true}, BELONGS_NOT, false, false},
-        {"only begun", {.is_path = true}, BELONGS_AT_BEGIN, true, false},
-        {"only begun, another name", {.leads_there = true, .leads_anywhere = true}, BELONGS_AT_BEGIN, true, false},
-        {"only begun, by another file", {.leads_anywhere = true}, BELONGS_NOT, false, false},
-        {"nothing is known", {.has_path = false}, BELONGS_NOT, false, false},
+        {"its path", {.is_path = true}, BELONGS_BY_PATH},
+        {"its path, and its file", {.is_path = true, .is_file = true}, BELONGS_BY_PATH},
+        {"another name", {.is_file = true}, BELONGS_BY_FILE},
+        {"another file", {.has_beside = true}, BELONGS_NOT},
+        {"the file beside", {.is_beside = true, .has_beside = true}, BELONGS_BY_PATH},
+        {"its path, and it goes on with a file beside that is not there yet", {.is_path = true}, BELONGS_BY_PATH},
+        {"its path, and it goes on with a file beside", {.is_path = true, .has_beside = true}, BELONGS_NOT},
+        {"its path and its file, and it goes on with a file beside", {.is_path = true, .has_beside = true, .is_file = true}, BELONGS_BY_FILE},
+        {"nothing is known", {.is_path = false}, BELONGS_NOT},
     };
-    for (size_t at = 0; at < sizeof cases / sizeof *cases; at++) {
-        enum belonging belonging = judge_belonging(&cases[at].facts);
-        check(belonging == cases[at].belonging, "belonging", cases[at].which);
-        check(counts_as_own(belonging, SESSION_LIVE) == cases[at].live, "counts while it lives", cases[at].which);
-        check(counts_as_own(belonging, SESSION_UNFINISHED) == cases[at].ended, "counts once it ended", cases[at].which);
-        check(counts_as_own(belonging, SESSION_DROPPED) == cases[at].ended, "counts once it was dropped", cases[at].which);
-    }
+    for (size_t at = 0; at < sizeof cases / sizeof *cases; at++)
+        check(judge_belonging(&cases[at].facts) == cases[at].belonging, "belonging", cases[at].which);
 }
 
 /* The state of a session, by its locks and what it has. */
@@ -288,8 +279,7 @@ static void check_keys(void) {
     for (size_t at = 0; at < sizeof cases / sizeof *cases; at++) {
         size_t length = strlen(cases[at].journal);
         for (size_t split = 0; split <= length; split++) {
-            struct key_count count;
-            count_begin(&count);
+            struct key_count count = {0};
             count_more(&count, cases[at].journal, split);
             count_more(&count, cases[at].journal + split, length - split);
             check(count.keys == cases[at].keys, "keys", cases[at].journal);
@@ -297,58 +287,118 @@ static void check_keys(void) {
     }
 }
 
-/* Whether all line ends of a text are CR LF. The text is taken whole and in two pieces at each offset. */
-static void check_line_ends(void) {
+/* Sums, by FNV-1a's own published values. */
+static void check_sums(void) {
     static const struct {
         const char *text;
-        bool is_crlf;
-    } cases[] = {{"", false}, {"a", false}, {"a\n", false}, {"a\r\n", true}, {"a\r\nb", true}, {"\n\r\n", false}, {"a\r\nb\n", false}, {"a\r\n\r\n", true}, {"\r\r\n", true}};
+        uint64_t hash;
+    } cases[] = {{"", 0xcbf29ce484222325}, {"a", 0xaf63dc4c8601ec8c}, {"foobar", 0x85944171f73967e8}};
     for (size_t at = 0; at < sizeof cases / sizeof *cases; at++) {
         size_t length = strlen(cases[at].text);
         for (size_t split = 0; split <= length; split++) {
-            struct line_ends ends;
-            ends_begin(&ends);
-            ends_more(&ends, cases[at].text, split);
-            ends_more(&ends, cases[at].text + split, length - split);
-            check(ends_are_all_crlf(&ends) == cases[at].is_crlf, "line ends", cases[at].text);
+            struct sum sum;
+            sum_begin(&sum);
+            sum_more(&sum, cases[at].text, split);
+            sum_more(&sum, cases[at].text + split, length - split);
+            check(sum.hash == cases[at].hash && sum.size == length, "sum", cases[at].text);
         }
     }
 }
 
-/* ---- a running session */
-
-/* What of a running session is kept, by what is there of its files. */
-static void check_keepings(void) {
-    static const struct {
-        const char *which;
-        struct keeping_facts facts;
-        enum keeping keeping;
-    } cases[] = {
-        {"all is there", {.is_folder_there = true, .is_filled = true}, KEEPS},
-        {"all is there, and something is written", {.is_folder_there = true, .is_filled = true, .is_copying = true}, KEEPS},
-        {"being copied", {.is_folder_there = true, .is_copying = true}, KEEPS_SOON},
-        {"no room", {.is_folder_there = true}, KEEPS_NOT_YET},
-        {"the journal has no room", {.is_folder_there = true, .is_filled = true, .is_behind = true}, KEEPS_NOT_YET},
-        {"FILE changed", {.is_folder_there = true, .is_changed = true}, KEEPS_NOTHING},
-        {"the folder is gone", {.is_filled = true}, KEEPS_NOWHERE},
-        {"the folder is gone, and FILE changed", {.is_changed = true}, KEEPS_NOWHERE},
-    };
-    for (size_t at = 0; at < sizeof cases / sizeof *cases; at++) check(judge_keeping(&cases[at].facts) == cases[at].keeping, "keeping", cases[at].which);
+/* All facts are read back as they were written; a byte that is changed anywhere is noticed, or the facts are no more than damaged. */
+static void check_facts(void) {
+    static struct about about, again;
+    static char words[MOST_ABOUT], changed[MOST_ABOUT], twice[MOST_ABOUT];
+    about_clear(&about);
+    check(about_write(&about, words, sizeof words) > 0 && !about_read(&again, words, strlen(words)), "facts", "without a path");
+    snprintf(about.path, sizeof about.path, "/a b/100%%\n\x1b\xd7\x90");
+    snprintf(about.beside, sizeof about.beside, "/a b/c.recovered");
+    about.has_id = about.has_begin = about.has_process = about.has_text = about.has_known = true;
+    about.id = (struct file_id){.device = 3, .inode = 5, .has_birth = true, .birth_seconds = 9, .birth_nanos = 7};
+    about.mode = 0640;
+    about.begin = (struct begin){24, 80, "rtl", 7};
+    about.process = (struct process){.number = 7, .machine = "here", .boot = "boot"};
+    snprintf(about.versions, sizeof about.versions, "bidi-edit 1 2 3 4");
+    about.marks = MARK_CUT | MARK_SECRET | MARK_IN_PLACE;
+    about.text = (struct sum){5, 0x123};
+    about.known = (struct sum){6, UINT64_MAX};
+    about.journal = (struct sum){7, 1};
+    about.saved = 8;
+    size_t size = about_write(&about, words, sizeof words);
+    check(about_write(&about, twice, size) == 0, "facts", "without room");
+    memcpy(changed, words, size);
+    check(about_read(&again, changed, size) && !again.is_damaged && !again.is_old, "facts", "read");
+    check(strcmp(again.path, about.path) == 0 && strcmp(again.beside, about.beside) == 0, "facts", again.path);
+    check(is_surely_same_id(&again.id, &about.id) && again.mode == 0640 && again.marks == about.marks, "facts", "file, mode and marks");
+    check(again.begin.line == 7 && again.process.number == 7 && strcmp(again.versions, about.versions) == 0, "facts", "begin, process, versions");
+    check(is_same_sum(&again.text, &about.text) && is_same_sum(&again.known, &about.known) && is_same_sum(&again.journal, &about.journal), "facts", "sums");
+    check(again.saved == 8, "facts", "saved");
+    check(about_write(&again, twice, sizeof twice) == size && memcmp(words, twice, size) == 0, "facts", "written again");
+    int unnoticed = 0;
+    for (size_t at = 0; at < size; at++) {
+        memcpy(changed, words, size);
+        changed[at] ^= 1;
+        if (about_read(&again, changed, size) && !again.is_damaged) unnoticed++;
+    }
+    check(unnoticed == 0, "facts", "a changed byte");
+    for (size_t at = 0; at < size; at++) {
+        memcpy(changed, words, at);
+        if (about_read(&again, changed, at) && !again.is_damaged) unnoticed++;
+    }
+    check(unnoticed == 0, "facts", "a missing end");
 }
 
-/* When a notice that something is not kept is shown again. */
-static void check_notices(void) {
+/* The words of a save's step: what is written is read back, and what is malformed is none. */
+static void check_step_words(void) {
+    char words[MOST_WORDS];
+    struct step step, again;
+    check(step_of("partly 65024 12 1700000000 999999999 0 65536 some-boot\n", &step), "step", "well formed");
+    check(step.kind == STEP_PARTLY && step.id.device == 65024 && step.id.inode == 12 && step.seconds == 1700000000 && step.nanos == 999999999 &&
+              step.from == 0 && step.to == 65536 && strcmp(step.boot, "some-boot") == 0, "step", "what it says");
+    words_of_step(&step, words);
+    check(strcmp(words, "partly 65024 12 1700000000 999999999 0 65536 some-boot\n") == 0, "step", words);
+    step.boot[0] = '\0';
+    words_of_step(&step, words);
+    check(step_of(words, &again) && strcmp(again.boot, "-") == 0, "step", "an unknown boot");
+    static const char *const wrong[] = {"", "partly", "none 1 2 3 4 5 6 b", "partly 1 2 3 1000000000 5 6 b", "partly 1 2 3 4 5 b", "whole 1 -2 3 4 5 6 b"};
+    for (size_t at = 0; at < sizeof wrong / sizeof *wrong; at++) check(!step_of(wrong[at], &step), "step", wrong[at]);
+}
+
+/* Whether FILE is as a killed save left it: the step that it noted, and FILE as it is. Each of the last five members is different in `now`. */
+static void check_left_files(void) {
     static const struct {
         const char *which;
-        struct notice_facts facts;
-        bool is_due;
+        enum step_kind kind;
+        /* How FILE differs from the step: another inode, its size, seconds and nanoseconds later, another boot. */
+        unsigned inode;
+        uint64_t size;
+        int seconds;
+        unsigned nanos;
+        bool is_other_boot, is_left;
     } cases[] = {
-        {"new", {.is_new = true}, true},
-        {"told, no key", {.seconds_since = 100}, false},
-        {"told, a key at once", {.is_typed_since = true, .seconds_since = 4}, false},
-        {"told, a key, later", {.is_typed_since = true, .seconds_since = 5}, true},
+        {"not begun", STEP_READY, 0, 10, 0, 0, false, false},
+        {"not begun, then the machine crashed", STEP_READY, 0, 10, 5, 0, true, true},
+        {"not begun, then the machine crashed, long ago", STEP_READY, 0, 10, 6, 0, true, false},
+        {"as noted", STEP_PARTLY, 0, 10, 0, 0, false, true},
+        {"the step itself", STEP_PARTLY, 0, 20, 1, 0, false, true},
+        {"within the step", STEP_PARTLY, 0, 15, 0, 1, false, true},
+        {"shorter", STEP_PARTLY, 0, 9, 0, 1, false, false},
+        {"longer", STEP_PARTLY, 0, 21, 0, 1, false, false},
+        {"later", STEP_PARTLY, 0, 10, 6, 0, false, false},
+        {"earlier", STEP_PARTLY, 0, 10, -6, 0, false, false},
+        {"another file", STEP_PARTLY, 1, 10, 0, 0, false, false},
+        {"whole", STEP_WHOLE, 0, 9, 0, 0, false, true},
+        {"whole, and changed since", STEP_WHOLE, 0, 9, 0, 1, false, false},
+        {"whole, then the machine crashed", STEP_WHOLE, 0, 9, -1, 0, true, true},
+        {"another file after a crash", STEP_WHOLE, 1, 9, 0, 0, true, false},
     };
-    for (size_t at = 0; at < sizeof cases / sizeof *cases; at++) check(is_notice_due(&cases[at].facts) == cases[at].is_due, "notice", cases[at].which);
+    for (size_t at = 0; at < sizeof cases / sizeof *cases; at++) {
+        struct step step = {.kind = cases[at].kind, .from = 10, .to = 20, .id = {.device = 1, .inode = 2}, .seconds = 1000, .nanos = 5, .boot = "b"};
+        struct step now = {.from = cases[at].size, .id = {.device = 1, .inode = 2 + cases[at].inode}, .seconds = 1000 + cases[at].seconds,
+                           .nanos = 5 + cases[at].nanos, .boot = "b"};
+        if (cases[at].is_other_boot) now.boot[0] = 'c';
+        check(is_as_left(&step, &now) == cases[at].is_left, "left file", cases[at].which);
+    }
 }
 
 int main(void) {
@@ -361,10 +411,11 @@ int main(void) {
     check_belongings();
     check_states();
     check_backups();
+    check_sums();
+    check_facts();
+    check_step_words();
+    check_left_files();
     check_keys();
-    check_line_ends();
-    check_keepings();
-    check_notices();
     printf("%d passed, %d failed\n", passed, failed);
     return failed > 0;
 }

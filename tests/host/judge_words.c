@@ -109,7 +109,8 @@ static const char *const calls[][2] = {
     {"--print f g", "2 only one FILE can be given"},
     {"--print f ~", "2 only one FILE can be given"},
     {"--print ~", "2 the name of FILE is empty"},
-    {"--print -", "2 - is standard input, not a file: write the input to a file, and edit that (./- names a file -)"},
+    {"--print -", "print /dev/stdin auto"},
+    {"--print --marks - --cols 7", "print /dev/stdin auto 7 marks"},
     {"-", "2 - is standard input, not a file: write the input to a file, and edit that (./- names a file -)"},
     {"--recover -", "2 - is standard input, not a file: write the input to a file, and edit that (./- names a file -)"},
     {"--print -- f g", "2 only one FILE can be given"},
@@ -192,7 +193,7 @@ static void check_version(const char *first_line, const char *wanted) {
     int file = mkstemp(path);
     if (file < 0 || write(file, first_line, strlen(first_line)) < 0) exit(1);
     close(file);
-    same(first_line, version_text(NULL, path), text_of("bidi-edit 0.4.0\ntoolchain unknown\nUnicode %s\n", wanted));
+    same(first_line, version_text(NULL, path), text_of("bidi-edit " EDITOR_VERSION "\ntoolchain unknown\nUnicode %s\n", wanted));
     unlink(path);
 }
 
@@ -210,7 +211,12 @@ int main(void) {
     for (size_t i = 0; i < sizeof calls / sizeof *calls; i++) same(calls[i][0], answer(calls[i][0]), calls[i][1]);
     for (size_t i = 0; i < sizeof names / sizeof *names; i++) same(names[i][1], shown(names[i][0]), names[i][1]);
     for (size_t i = 0; i < sizeof versions / sizeof *versions; i++) check_version(versions[i][0], versions[i][1]);
-    same("no file of classes", version_text("a kit", "/nowhere/x"), "bidi-edit 0.4.0\ntoolchain a kit\nUnicode unknown\n");
+    same("no file of classes", version_text("a kit", "/nowhere/x"), "bidi-edit " EDITOR_VERSION "\ntoolchain a kit\nUnicode unknown\n");
+    same("a line of the toolchain", version_text("a kit\n", "/nowhere/x"), "bidi-edit " EDITOR_VERSION "\ntoolchain a kit\nUnicode unknown\n");
+    same("notes of an installation", version_text("a kit\nversion 1.2~git3\nprograms of dist/\nmore\n", "/nowhere/x"),
+         "bidi-edit 1.2~git3\ntoolchain a kit\nUnicode unknown\nprograms of dist/\nmore\n");
+    same("notes without a version", version_text("a kit\nprograms of dist/\n", "/nowhere/x"),
+         "bidi-edit " EDITOR_VERSION "\ntoolchain a kit\nUnicode unknown\nprograms of dist/\n");
     check_help();
     printf("%d passed, %d failed\n", passed, failed);
     return failed > 0;

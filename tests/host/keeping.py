@@ -1,14 +1,14 @@
 """keeping.py HOST [NAME..]: checks what the host keeps, asks and tells, with typist.py in place of the program. Names select the cases that
 begin so. Exit status 1: a case failed."""
-import os, shutil, signal, sys, tempfile
+import os, shutil, signal, sys
 HERE = os.path.dirname(os.path.abspath(__file__))
 sys.path.insert(0, HERE)
-import keeping_cases, keeping_ends, keeping_files
-from checks import Report, share, try_case
+import keeping_cases, keeping_ends, keeping_files, keeping_stalls
+from checks import Report, lasting_folder, share, try_case
 from keeping_scene import Place
 from terminals import become_reaper
 
-CASES = {case.__name__: case for case in keeping_cases.CASES + keeping_ends.CASES + keeping_files.CASES}
+CASES = {case.__name__: case for case in keeping_cases.CASES + keeping_ends.CASES + keeping_files.CASES + keeping_stalls.CASES}
 
 
 def install(folder, host):
@@ -22,7 +22,8 @@ def install(folder, host):
     os.chmod(f'{folder}/lib/bidi_edit/bidi_print', 0o755)
     with open(f'{folder}/lib/bidi_edit/kit', 'w') as file:
         file.write('some kit\n')
-    os.symlink(os.path.dirname(os.path.dirname(HERE)) + '/data', f'{folder}/share/bidi_edit')
+    # a copy, since another user may have no access to this checkout
+    shutil.copytree(f'{HERE}/../../data', f'{folder}/share/bidi_edit')
     return f'{folder}/bin/bidi-edit'
 
 
@@ -31,8 +32,7 @@ def worker(host, names):
     become_reaper()
     for number in (signal.SIGPIPE, signal.SIGXFSZ, signal.SIGINT):  # python ignores or handles them until exec
         signal.signal(number, signal.SIG_DFL)
-    # not in a folder for temporary files, whose sessions would be there
-    folder = tempfile.mkdtemp(prefix='keeping.', dir='/var/lib' if os.geteuid() == 0 else os.path.expanduser('~'))
+    folder = lasting_folder('keeping')
     report = Report()
     try:
         installed = install(f'{folder}/tree', host)

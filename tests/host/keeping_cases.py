@@ -1,14 +1,19 @@
 """Cases of keeping.py: words, refusals, questions, recovery, and what is listed and removed."""
-import os, re, shutil, signal, stat, subprocess, time
+import os, re, shutil, signal, stat, subprocess, sys, time
 from checks import Skipped, needs
 from keeping_scene import CHOICE, QUIT, REST, SAVE, recovers
+from terminals import HANG
+
+# the version that the sources name
+with open(f'{os.path.dirname(os.path.abspath(__file__))}/../../host/words.h') as words:
+    VERSION = re.search('#define EDITOR_VERSION "(.*)"', words.read()).group(1)
 
 
 def told_words(check, place):
     """Help, version, refusals of words."""
     found = status, out, err = place.tells('--help')
     check.holds('--help', status == 0 and out.startswith('usage: bidi-edit ') and not err, found)
-    check.same('--version', place.tells('--version'), (0, 'bidi-edit 0.4.0\ntoolchain some kit\nUnicode 15.0.0\n', ''))
+    check.same('--version', place.tells('--version'), (0, f'bidi-edit {VERSION}\ntoolchain some kit\nUnicode 15.0.0\n', ''))
     found = status, out, err = place.tells()
     check.holds('no word', status == 2 and err.startswith('bidi-edit: FILE is missing\nusage: ') and not out, found)
     for words in (['--help'], ['--version'], ['--forget']):
@@ -48,8 +53,10 @@ def a_session(check, place):
     check.holds('the program\'s words', words[-1] == 'a.txt' and '--journal' in words and '--text' in words and '--replay' not in words, words)
     check.same('the number of sessions', len(place.sessions()), 1)
     check.same('the text', place.part('text'), b'text\n')
-    check.same('the path', place.part('path').decode(), place.path('a.txt'))
-    check.same('the begin', place.part('begin'), b'24 80 auto -\n')
+    check.same('its files', sorted(os.listdir(place.sessions()[0])), ['about', 'journal', 'text'])
+    check.same('the path', place.fact('path'), place.path('a.txt'))
+    check.same('the begin', place.fact('begin'), '24 80 auto -')
+    check.same('the mode', place.fact('mode'), '644')
     check.same('the folder\'s mode', oct(stat.S_IMODE(os.stat(place.sessions()[0]).st_mode)), oct(0o700))
     started.type(QUIT).ends(0)
     check.same('sessions after the end', place.sessions(), [])
@@ -112,12 +119,12 @@ def deletion(check, place):
     started = place.start('a.txt', is_plain=True, is_slow=True)
     for answer in (b'd\n', b'delete\n', b'd\nyes\n'):
         started.type(answer)
-    started.run.pump(5, CHOICE)
+    started.run.pump(HANG, CHOICE)
     started.run.rest(0.5)
     output = started.run.output
     check.holds('what was typed ahead', output.count(CHOICE) == 1 and b'Delete it' not in output, output)
     started.type(b'\x04')
-    check.holds('the end', started.run.pump(5), started.run.output)
+    check.holds('the end', started.run.pump(HANG), started.run.output)
     started.run.close()
     check.same('the number of sessions after what was typed ahead', len(place.sessions()), 1)
     place.start('a.txt').answers(CHOICE, 'd').answers(sure, 'yes').sees(b'text <text|>').type(QUIT).ends(0)
@@ -186,13 +193,13 @@ def two_at_once(check, place):
     for _ in range(5):
         both = [place.start('a.txt', is_plain=True) for _ in range(2)]
         for started in both:
-            check.holds('a start', started.run.pump_any(20, (b'Edit it anyway', b'text <')), started.run.output)
+            check.holds('a start', started.run.pump_any(HANG, (b'Edit it anyway', b'text <')), started.run.output)
         told = [b'Edit it anyway' in started.run.output for started in both]
         check.holds('one is told', any(told), [started.run.output for started in both])
         time.sleep(0.05)  # as in Started.answers
         for started, is_told in zip(both, told):
             started.type(b'no\n' if is_told else QUIT)
-            check.holds('an end', started.run.pump(15), started.run.output)
+            check.holds('an end', started.run.pump(HANG), started.run.output)
             started.run.drain()
         # the last one has the pipes of the first
         for started in reversed(both):
@@ -203,7 +210,7 @@ def cannot_be_replayed(check, place):
     """A session that cannot be replayed is left, or its parts are kept: it is never offered to be dropped."""
     place.put('a.txt', b'text\n')
     place.leave()
-    place.put_part('begin', b'nonsense\n')
+    place.put_fact('begin', 'nonsense')
     started = place.start('a.txt').answers(CHOICE, 'r')
     for answer in ('d', 'l', ''):
         started.answers(REST, answer)
@@ -215,6 +222,19 @@ def cannot_be_replayed(check, place):
     check.holds('what is told of the keys', 'a.txt.session-journal: the keys\n' in out, out)
     for part, wanted in (('journal', b'abc'), ('text', b'text\n'), ('snapshot', b'abctext\n')):
         check.same(f'the kept {part}', place.text(f'a.txt.session-{part}'), wanted)
+    place.leave()
+    place.put_fact('begin', 'nonsense')
+    # FILE's folder is exchanged for a link while the question is there: what is kept goes to the folder that was opened
+    started = place.start('--recover', place.path('a.txt')).sees(REST)
+    os.rename(place.files, f'{place.files}.away')
+    os.mkdir(f'{place.files}.theirs')
+    os.symlink(f'{place.files}.theirs', place.files)
+    time.sleep(0.05)
+    started.type(b'keep\n').sees(b'text <>').type(QUIT).ends(0)
+    os.remove(place.files)
+    os.rename(f'{place.files}.away', place.files)
+    check.same('what is kept where the link leads', [name for name in os.listdir(f'{place.files}.theirs') if 'session' in name], [])
+    check.same('the text beside FILE', place.text('a.txt.session-text1'), b'text\n')
     place.leave()
     place.start('a.txt', TYPIST='replay-refused').answers(CHOICE, 'r').answers(REST, 'open').sees(b'text <text|>').type(QUIT).ends(0)
     check.same('the number of sessions after a refused replay', len(place.sessions()), 1)
@@ -234,7 +254,7 @@ def replay_that_fails(check, place):
     for way in ('replay-dies', 'replay-hangs'):
         started = place.start('a.txt', TYPIST=way).answers(CHOICE, 'later').sees(b'text <').type(b'x').sees(b'*')
         os.kill(started.run.job, signal.SIGTERM)
-        started.ends(-signal.SIGTERM, 5)
+        started.ends(-signal.SIGTERM)
         check.holds(f'{way}: what is told at the end', 'unsaved text is kept: ' in started.err(), started.err())
 
 
@@ -281,7 +301,7 @@ def no_place_beside(check, place):
     told = f'bidi-edit: to store the text elsewhere: bidi-edit --recover --to OTHER {long}\n'
     check.holds('what is told', started.err().endswith(told), started.err())
     check.same('the journal', place.part('journal'), b'abc')
-    check.holds('the session names no file beside', not os.path.exists(f'{place.sessions()[0]}/beside'))
+    check.same('the session names no file beside', place.fact('beside'), None)
 
 
 def all_is_there(check, place):
@@ -298,7 +318,7 @@ def another_version(check, place):
     """What another version kept is not replayed unasked: its text is restored, or the user is asked."""
     place.put('a.txt', b'text\n')
     place.leave()
-    place.put_part('versions', b'bidi-edit 0.0.0\n')
+    place.put_fact('versions', 'bidi-edit 0.0.0')
     before = place.sessions()
     started = place.start('a.txt').answers(CHOICE, 'r').sees(b'text <abctext|> *')
     check.holds('what is told', 'its text is recovered, but not its undo history' in started.out(), started.out())
@@ -307,7 +327,7 @@ def another_version(check, place):
     os.kill(started.run.job, signal.SIGHUP)
     started.ends(-signal.SIGHUP)
     check.holds('what is told at the end', 'unsaved text is kept' in started.err(), started.err())
-    place.put_part('versions', b'bidi-edit 0.0.0\n')
+    place.put_fact('versions', 'bidi-edit 0.0.0')
     place.put_part('journal', b'x')
     os.unlink(f'{place.sessions()[0]}/snapshot')
     sure = b'Recover it anyway (yes, no)? '
@@ -315,11 +335,136 @@ def another_version(check, place):
     place.start('a.txt').answers(CHOICE, 'r').answers(sure, 'yes').sees(b'text <xabctext|>').kill()
 
 
+def recovered_by_text_twice(check, place):
+    """A session that goes on with its text is killed and recovered again: FILE has not been changed meanwhile."""
+    place.put('a.txt', b'text\n')
+    place.leave()
+    place.put_fact('versions', 'bidi-edit 0.0.0')
+    place.start('a.txt').answers(CHOICE, 'r').sees(b'text <abctext|> *').type(b'd').sees(b'<dabctext|>').kill()
+    started = place.start('a.txt').answers(CHOICE, 'r').sees(b'text <dabctext|> *').sees(b'notice 7')
+    check.holds('what is told', 'another program' not in started.out(), started.out())
+    started.type(SAVE).sees(b'saved').type(QUIT).ends(0)
+    check.same('FILE', place.text('a.txt'), b'dabctext\n')
+
+
+def damaged(check, place):
+    """A changed byte in a session is told, and nothing is recovered from it unasked."""
+    place.put('a.txt', b'text\n')
+    sure = b'Recover it anyway (yes, no)? '
+    about = None
+    for name, bytes_, why in (('journal', b'abd', 'its keys have changed'), ('text', b'tex!\n', 'its text has changed'),
+                              ('journal', b'', 'keys are missing'), ('about', None, 'its file about has changed')):
+        place.leave()
+        about = place.part('about')
+        place.spoil(name, bytes_ if bytes_ is not None else about.replace(b'24 80', b'24 90'))
+        told = f'bidi-edit: the session in {place.sessions()[0]} is damaged: {why}\n'
+        started = place.start('a.txt').answers(CHOICE, 'r').answers(sure, 'no').ends(2)
+        check.holds(f'{why}: what is told', started.out().endswith(told), started.out())
+        found = place.tells('--recover', '--to', 'o', 'a.txt')
+        check.holds(f'{why}: stored', found[0] == 1 and found[1].endswith(told), found)
+        os.unlink(place.path('o'))
+        place.start('a.txt').answers(CHOICE, 'r').answers(sure, 'yes').sees(b'text <').type(QUIT).ends(0)
+        place.tells('--forget')
+        check.same(f'{why}: sessions', place.sessions(), [])
+
+
+def journal_gone(check, place):
+    """A session whose journal is gone is not deleted at the next start, but told."""
+    place.put('a.txt', b'text\n')
+    place.leave()
+    os.unlink(f'{place.sessions()[0]}/journal')
+    started = place.start('a.txt').answers(CHOICE, 'r').answers(b'Recover it anyway (yes, no)? ', 'yes').answers(REST, 'keep').sees(b'text <')
+    check.holds('what is told', 'is damaged: keys are missing' in started.out(), started.out())
+    started.type(QUIT).ends(0)
+    check.same('the text', place.text('a.txt.session-text'), b'text\n')
+
+
+def another_name(check, place):
+    """A session is offered at a start with any name of the file that it opened, also where another file has the first name by now."""
+    place.put('a.txt', b'text\n')
+    os.link(place.path('a.txt'), place.path('b.txt'))
+    place.leave('a.txt')
+    place.put('c.txt', b'other\n')
+    os.rename(place.path('c.txt'), place.path('a.txt'))
+    place.start('b.txt').answers(CHOICE, 'later').sees(b'text <text|>').type(QUIT).ends(0)
+    place.start('a.txt').answers(CHOICE, 'later').sees(b'text <other|>').type(QUIT).ends(0)
+
+
+OLD = {'path': '{path}', 'begin': '24 80 auto -\n', 'process': '1 {machine} -\n', 'mode': '640\n', 'versions': 'bidi-edit 0.4.0\n1 2 3\n', 'text': 'text\n',
+       'journal': 'abc', 'snapshot': 'abctext\n', 'lock': ''}
+
+
+def old_form(check, place):
+    """A session of version 0.4.0, with a file for each fact, is listed, stored, and goes on in today's form."""
+    place.put('a.txt', b'text\n')
+    folder = f'{place.top}/home/.local/state/bidi_edit/20250102030405.abcdefgh'
+    os.makedirs(folder, 0o700)
+    for name, words in OLD.items():
+        with open(f'{folder}/{name}', 'w') as file:
+            file.write(words.format(path=place.path('a.txt'), machine=os.uname().nodename))
+    found = place.tells('--recover')
+    check.holds('the list', f'keys: 3  KB: ' in found[1] and found[1].endswith(f'  {place.path("a.txt")}\n'), found)
+    recovers(check, place, 'a.txt', b'abctext\n')
+    started = place.start('a.txt').answers(CHOICE, 'r').sees(b'text <abctext|> *')
+    check.holds('what is told', 'its text is recovered, but not its undo history' in started.out(), started.out())
+    check.holds('its form', {'about', 'journal', 'text'} == set(os.listdir(place.sessions()[0])) - {'about.new'}, os.listdir(place.sessions()[0]))
+    started.type(SAVE).sees(b'saved').type(QUIT).ends(0)
+    check.same('sessions', place.sessions(), [])
+
+
+def dead_disk(check, place):
+    """A session of a file on a disk that does not answer holds up no other file's start."""
+    place.put('a.txt', b'text\n')
+    place.put('b.txt', b'other\n')
+    place.leave('a.txt')
+    os.mkdir(place.path('dead'))
+    server = subprocess.Popen([sys.executable, f'{os.path.dirname(__file__)}/stalled_disk.py', place.path('dead'), 'lookup'],
+                              stdin=subprocess.PIPE, stdout=subprocess.PIPE, text=True)
+    if server.stdout.readline() != 'ready\n':
+        raise Skipped('no disk can be mounted')
+    try:
+        place.put_fact('path', place.path('dead/note'))
+        place.put_fact('beside', place.path('dead/note.recovered'))
+        place.edit('b.txt').type(QUIT).ends(0)
+        place.edit('-n', 'b.txt').type(QUIT).ends(0)
+        check.same('--forget', place.tells('--forget', 'b.txt')[0], 0)
+        check.same('the number of sessions', len(place.sessions()), 1)
+        check.same('--forget of all', place.tells('--forget')[0], 0)
+        check.same('sessions', place.sessions(), [])
+    finally:
+        server.stdin.close()
+        server.wait()
+
+
+@needs('root', 'mount')
+def in_memory(check, place):
+    """A FILE in memory, whose text no disk may have, gets no session, and that is told."""
+    memory = f'{place.top}/memory'
+    os.mkdir(memory)
+    if subprocess.run(['mount', '-t', 'tmpfs', 'none', memory], stderr=subprocess.DEVNULL).returncode != 0:
+        raise Skipped('nothing can be mounted')
+    try:
+        with open(f'{memory}/a.txt', 'w') as file:
+            file.write('text\n')
+        started = place.edit(f'{memory}/a.txt').sees(b'notice 5')
+        told = f'bidi-edit: unsaved text is not kept, since {memory}/a.txt is in memory, and no disk may have its text\n'
+        check.same('what is told', started.err(), told)
+        check.same('sessions', place.sessions(), [])
+        started.type(QUIT).ends(0)
+        # sessions in memory too
+        started = place.edit(f'{memory}/a.txt', XDG_STATE_HOME=f'{memory}/state')
+        check.same('what is told of sessions in memory', started.err(), '')
+        started.type(b'x').sees(b'*').kill()
+        recovers(check, place, f'{memory}/a.txt', b'xtext\n', XDG_STATE_HOME=f'{memory}/state')
+    finally:
+        subprocess.run(['umount', memory])
+
+
 def elsewhere(check, place):
     """A session on another machine is asked about."""
     place.put('a.txt', b'text\n')
     place.leave()
-    place.put_part('process', b'1 elsewhere 11111111-1111\n')
+    place.put_fact('process', '1 elsewhere 11111111-1111')
     out = place.start('a.txt').answers(b'Edit it anyway (yes, no)? ', 'no').ends(2).out()
     told = 'bidi-edit: a.txt may be open in another window of yours (process 1 on elsewhere, which cannot be checked from here). '
     check.holds('what is told', out.startswith(told), out)
@@ -373,6 +518,42 @@ def printing(check, place):
     check.holds('not UTF-8', found[2].startswith('bidi-edit: latin is not UTF-8 (line 2): '), found)
 
 
-CASES = [told_words, refusals, a_session, keys_are_kept, questions, deletion, dropped, secrets, live, without_a_session, two_at_once,
-         cannot_be_replayed, replay_that_fails, changed_beside, changed_meanwhile, no_place_beside, all_is_there, another_version, elsewhere,
+def byte_order_mark(check, place):
+    """A byte order mark at FILE's beginning is no text, and is written back, also by a session that was recovered."""
+    mark = b'\xef\xbb\xbf'
+    for text in (b'', b'one\n', b'one\n' * 400000):
+        place.put('a.txt', mark + text)
+        place.edit('a.txt').type(b'abc').sees(b'text <abc').type(SAVE).sees(b'saved').type(QUIT).ends(0)
+        check.same('FILE', place.text('a.txt')[:60], (mark + b'abc' + text)[:60])
+        check.same('its length', len(place.text('a.txt')), 6 + len(text))
+        check.same('sessions', place.sessions(), [])
+    place.put('a.txt', mark + b'one\n')
+    place.leave()
+    recovers(check, place, 'a.txt', b'abcone\n')
+    place.start('a.txt').answers(CHOICE, 'r').sees(b'text <abcone|>').type(SAVE).sees(b'saved').type(QUIT).ends(0)
+    check.same('FILE after a recovery', place.text('a.txt'), mark + b'abcone\n')
+    place.edit('a.txt').type(b'x').sees(b'*').type(QUIT).ends(0)
+    check.same('FILE after dropped changes', place.text('a.txt'), mark + b'abcone\n')
+
+
+def not_plain_by_now(check, place):
+    """Something else is in FILE's place by now: the text of its session can be stored, and it can be removed."""
+    makers = {'folder': os.mkdir, 'pipe': os.mkfifo, 'circle': lambda path: os.symlink('a.txt', path),
+              'broken link': lambda path: os.symlink('none/none', path)}
+    for name, make in makers.items():
+        place.put('a.txt', b'text\n')
+        place.leave()
+        os.unlink(place.path('a.txt'))
+        make(place.path('a.txt'))
+        found = place.start('--recover', 'a.txt').ends(1)
+        check.holds(f'{name}: told', 'bidi-edit --recover --to OTHER a.txt' in found.err(), found.err())
+        recovers(check, place, 'a.txt', b'abctext\n')
+        found = place.tells('--forget', 'a.txt')
+        check.holds(f'{name}: forgotten', found[0] == 0 and found[1].endswith('is deleted\n'), found)
+        (os.rmdir if name == 'folder' else os.unlink)(place.path('a.txt'))
+
+
+CASES = [not_plain_by_now, byte_order_mark, told_words, refusals, a_session, keys_are_kept, questions, deletion, dropped, secrets, live, without_a_session, two_at_once,
+         cannot_be_replayed, replay_that_fails, changed_beside, changed_meanwhile, no_place_beside, all_is_there, another_version, recovered_by_text_twice, damaged, journal_gone, another_name, old_form,
+         dead_disk, in_memory, elsewhere,
          lost_file, lost_folder, printing]

@@ -1,6 +1,8 @@
 """Cases of keeping.py: what is kept while the program runs, and what is told at the end."""
-import os, shutil, signal, time
+import os, shutil, signal, subprocess, time
+from checks import Skipped, needs
 from keeping_scene import CHOICE, QUIT, SAVE, recovers
+from terminals import HANG
 
 
 def saved(check, place):
@@ -62,25 +64,6 @@ def other_names(check, place):
     check.holds('what is told after --force', 'saves overwrite it in place' in started.err(), started.err())
 
 
-def line_ends(check, place):
-    """Other line ends than those that FILE had are told."""
-    place.put('a.txt', b'text\r\n')
-    place.edit('a.txt').type(b'x').sees(b'*').type(SAVE).sees(b'saved').type(QUIT).ends(0)
-    started = place.edit('a.txt').type(b'x').sees(b'*').type(SAVE).sees(b'saved')
-    with open(place.path('a.txt'), 'ab') as file:
-        file.write(b'more\n')
-    started.type(QUIT).ends(0)
-    told = "bidi-edit: a.txt now has mixed line ends, CR LF and LF: perl -pi -e 's/\\r?\\n/\\r\\n/' a.txt makes all of them CR LF\n"
-    check.same('what is told', started.err(), told)
-    place.put('a.txt', b'text\r\n')
-    os.link(place.path('a.txt'), place.path('b.txt'))
-    started = place.edit('-n', '--force', 'a.txt').type(b'x').sees(b'*').type(SAVE).sees(b'saved')
-    with open(place.path('a.txt'), 'ab') as file:
-        file.write(b'more\n')
-    started.type(QUIT).ends(0)
-    check.holds('what is told without a session', started.err().endswith(told), started.err())
-
-
 def remove_at_once(folder, place):
     """Takes a folder away in one step, since parts of it that are missing are made again."""
     place.count += 1
@@ -98,7 +81,7 @@ def folder_gone(check, place):
         remove_at_once(folder, place)
         # host and program write to the terminal in any order
         for told in b'(unsaved text is not kept now: save it)', b'notice 2':
-            check.holds(f'{told} is shown', started.run.pump(15, told), started.run.output)
+            check.holds(f'{told} is shown', started.run.pump(HANG, told), started.run.output)
         started.type(keys) if keys else os.kill(started.run.job, signal.SIGTERM)
         started.ends(status)
         check.holds('what is told', line.format(folder) in started.err(), started.err())
@@ -109,24 +92,37 @@ def folder_gone(check, place):
 
 
 def parts_gone(check, place):
-    """Parts of the session that are removed meanwhile are made again, so that what is told of them is true."""
+    """A file of the session that is removed meanwhile is told, also at the end; the rest of the session stays."""
     place.put('a.txt', b'text\n')
-    for names in (['journal'], ['text', 'path'], ['text', 'path', 'journal', 'lock']):
+    for name in ('journal', 'text', 'about'):
         started = place.edit('a.txt').type(b'abc').sees(b'*')
-        time.sleep(0.3)
-        for name in names:
-            os.unlink(f'{place.sessions()[0]}/{name}')
-        time.sleep(2.5)
-        started.type(b'd').sees(b'<abcdtext')
+        time.sleep(2)  # all is on the disk
+        folder = place.sessions()[0]
+        os.unlink(f'{folder}/{name}')
+        started.sees(b'notice 2').type(b'd').sees(b'<abcdtext')
+        check.holds(f'{name}: the title', started.run.pump(HANG, b'<abcdtext'), started.run.output)
         place.start('a.txt').answers(b'Edit it anyway (yes, no)? ', 'no').ends(2)
         os.kill(started.run.job, signal.SIGTERM)
         started.ends(-signal.SIGTERM)
-        if 'unsaved text is kept' in started.err():
-            recovers(check, place, 'a.txt', b'abcdtext\n')
-            place.tells('--forget')
-        else:
-            check.holds(f'{names}: what is told', 'is not kept' in started.err(), started.err())
-        check.same(f'{names}: sessions', place.sessions(), [])
+        told = f'any unsaved text is lost, since something has removed files from {folder}\n'
+        check.holds(f'{name}: what is told', told in started.err(), started.err())
+        check.same(f'{name}: what is left', sorted(os.listdir(folder)), sorted({'about', 'journal', 'text'} - {name}))
+        shutil.rmtree(folder)
+
+
+def failed_save(check, place):
+    """The message of a failed save stays until a key is pressed; then what else is to be told comes."""
+    os.mkdir(place.path('d'))
+    place.put('d/a.txt', b'text\n')
+    started = place.edit('d/a.txt').type(b'abc').sees(b'*')
+    time.sleep(1.5)
+    os.rename(place.path('d'), place.path('e'))
+    started.type(SAVE).sees(b'failed')
+    remove_at_once(place.sessions()[0], place)
+    started.run.rest(4)
+    check.holds('nothing is told over it', b'notice' not in started.run.output, started.run.output)
+    started.type(b'd').sees(b'notice 2')
+    started.type(QUIT).ends(0)
 
 
 def journal_lost(check, place):
@@ -190,12 +186,9 @@ def no_folder(check, place):
 
 
 def long_folder(check, place):
-    """A folder for temporary files or sessions with a name that no system takes is told."""
+    """A folder for sessions with a name that no system takes is told."""
     place.put('a.txt', b'text\n')
-    started = place.edit('a.txt', TMPDIR='/' + 'x' * 70000).type(QUIT).ends(0)
-    check.same('what is told of TMPDIR', started.err(), 'bidi-edit: TMPDIR is ignored, since its 70001 bytes are too many for a path\n')
-    started = place.edit('a.txt', XDG_STATE_HOME='/' + 'x' * 70000).type(QUIT).ends(0)
-    err = started.err()
+    err = place.edit('a.txt', XDG_STATE_HOME='/' + 'x' * 70000).type(QUIT).ends(0).err()
     check.holds('what is told of XDG_STATE_HOME', err.startswith('bidi-edit: unsaved text is not kept, since ') and len(err) < 300, err)
 
 
@@ -206,9 +199,85 @@ def pipe_in_its_place(check, place):
     os.unlink(place.path('a.txt'))
     os.mkfifo(place.path('a.txt'))
     os.kill(started.run.job, signal.SIGTERM)
-    started.ends(-signal.SIGTERM, 4)
+    started.ends(-signal.SIGTERM)
     check.holds('what is told', 'unsaved text is kept' in started.err(), started.err())
 
 
-CASES = [saved, killed, killed_host, no_keys, other_names, line_ends, folder_gone, parts_gone, journal_lost, folder_renamed,
+def hangs_up(started):
+    """Closes the terminal of a start, which ends by that."""
+    os.kill(started.run.job, signal.SIGHUP)
+    return started.ends(-signal.SIGHUP)
+
+
+def slow_disk(place):
+    """The environment of a host each of whose syncs takes half a second."""
+    library = f'{place.top}/slow_sync.so'
+    subprocess.run(['cc', '-shared', '-fPIC', '-D_GNU_SOURCE', '-o', library, f'{os.path.dirname(__file__)}/slow_sync.c'], check=True)
+    return {'LD_PRELOAD': library, 'ASAN_OPTIONS': 'verify_asan_link_order=0'}
+
+
+@needs('cc')
+def recovered_at_once(check, place):
+    """A recovery right after a kill of host and program waits for the keeper, which puts the last keys on a slow disk."""
+    place.put('a.txt', b'text\n')
+    started = place.edit('a.txt', **slow_disk(place)).type(b'abc').sees(b'*')
+    for process in (started.run.job, started.run.child('bidi_edit')):
+        os.kill(process, signal.SIGKILL)
+    recovers(check, place, 'a.txt', b'abctext\n')
+    started.ends(-signal.SIGKILL)
+
+
+@needs('cc')
+def slow_syncs(check, place):
+    """On a disk where each sync takes half a second, an end in a hurry keeps the session, though not all of it was synced."""
+    slow = slow_disk(place)
+
+    def just_after_a_save(started):
+        started.type(SAVE).sees(b'saved').type(b'd').sees(b'<abcdtext')
+
+    def after_another_program(started):
+        time.sleep(4)  # the session is complete
+        place.put('b.txt', b'other\n')
+        os.rename(place.path('b.txt'), place.path('a.txt'))
+
+    for meanwhile, text in ((just_after_a_save, b'abcdtext\n'), (after_another_program, b'abctext\n'), (None, b'abctext\n')):
+        place.put('a.txt', b'text\n')
+        started = place.edit('a.txt', **slow).type(b'abc').sees(b'*')
+        if meanwhile:
+            meanwhile(started)
+        hangs_up(started)
+        name = meanwhile.__name__ if meanwhile else 'just after the start'
+        check.holds(f'what is told {name}', 'unsaved text is kept: ' in started.err(), started.err())
+        recovers(check, place, 'a.txt', text)
+        place.tells('--forget')
+        check.same(f'sessions {name}', place.sessions(), [])
+
+
+@needs('root', 'mount')
+def replaced_on_full_disk(check, place):
+    """FILE is replaced by another program while the disk of the sessions is full: the session stays."""
+    disk = f'{place.top}/disk'
+    os.mkdir(disk)
+    if subprocess.run(['mount', '-t', 'tmpfs', '-o', 'size=256k', 'none', disk], stderr=subprocess.DEVNULL).returncode != 0:
+        raise Skipped('no small disk can be mounted')
+    try:
+        place.put('a.txt', b'text\n')
+        started = place.edit('a.txt', XDG_STATE_HOME=disk).type(b'abc').sees(b'*')
+        time.sleep(1)
+        with open(f'{disk}/filler', 'wb', buffering=0) as filler:
+            try:
+                while filler.write(bytes(4096)):
+                    pass
+            except OSError:
+                pass
+        place.put('b.txt', b'other\n')
+        os.rename(place.path('b.txt'), place.path('a.txt'))
+        hangs_up(started)
+        check.holds('what is told', 'unsaved text is kept: ' in started.err(), started.err())
+        recovers(check, place, 'a.txt', b'abctext\n', XDG_STATE_HOME=disk)
+    finally:
+        subprocess.run(['umount', disk])
+
+
+CASES = [saved, failed_save, killed, killed_host, recovered_at_once, slow_syncs, replaced_on_full_disk, no_keys, other_names, folder_gone, parts_gone, journal_lost, folder_renamed,
          working_folder_gone, no_folder, long_folder, pipe_in_its_place]

@@ -2,6 +2,7 @@
 import glob, os, re, signal, subprocess, time
 from checks import Skipped, needs
 from keeping_scene import CHOICE, QUIT, SAVE, recovers
+from terminals import HANG
 
 NOBODY = ['setpriv', '--reuid', '65534', '--regid', '65534', '--clear-groups']
 
@@ -62,7 +63,7 @@ def closed_files(check, place):
     check.same('the program\'s text', words[words.index('--text') + 1], '/dev/null')
     started.type(b'abc').sees(b'text <abc> *')
     os.kill(started.run.job, signal.SIGHUP)
-    check.holds('the end', started.run.pump(8), started.run.output)
+    check.holds('the end', started.run.pump(HANG), started.run.output)
     started.run.drain()
     started.run.close()
     recovers(check, place, 'a.txt', b'abc')
@@ -92,6 +93,10 @@ def torn(check, place):
         place.put_part('mark', b'abcdtext\n')
         with open(place.path('a.txt'), 'r+b') as file:
             file.truncate(3)
+        look = os.stat(place.path('a.txt'))
+        boot = open('/proc/sys/kernel/random/boot_id').read().strip()
+        step = f'partly {look.st_dev} {look.st_ino} {look.st_mtime_ns // 10**9} {look.st_mtime_ns % 10**9} 0 9 {boot}\n'
+        place.put_part('mark.step', step.encode())
         started.kill()
         if is_gone:
             os.unlink(place.path('a.txt'))
@@ -102,6 +107,65 @@ def torn(check, place):
         place.tells('--forget')
         for name in glob.glob(place.path('*')):
             os.unlink(name)
+
+
+@needs('cc')
+def cut_by_another(check, place):
+    """A save that overwrites FILE is killed once FILE has all. What another program empties or cuts then is not filled again."""
+    library = f'{place.top}/slow_sync.so'
+    subprocess.run(['cc', '-shared', '-fPIC', '-D_GNU_SOURCE', '-o', library, f'{os.path.dirname(__file__)}/slow_sync.c'], check=True)
+    slow = {'LD_PRELOAD': library, 'ASAN_OPTIONS': 'verify_asan_link_order=0'}
+    for left in (b'', b'abc'):
+        place.put('a.txt', b'text\n')
+        os.link(place.path('a.txt'), place.path('b.txt'))
+        started = place.edit('a.txt', **slow).type(b'abc').sees(b'*')
+        time.sleep(4)  # the session is complete
+        started.type(SAVE)
+        end = time.monotonic() + HANG
+        while place.text('a.txt') != b'abctext\n' and time.monotonic() < end:
+            time.sleep(0.01)
+        saver = started.run.child('bidi-saver')
+        program = started.run.child('bidi_edit')
+        check.holds('FILE is not synced yet', saver, place.text('a.txt'))
+        for process in (started.run.job, saver, program):
+            os.kill(process, signal.SIGKILL)
+        started.ends(-signal.SIGKILL)
+        with open(place.path('b.txt'), 'wb') as file:
+            file.write(left)
+        found = place.start('a.txt').answers(CHOICE, 'l').sees(b'text <').type(QUIT).ends(0)
+        told = f'a.txt has only a part of what was saved last, and may have been cut by another program: the whole text is in {place.sessions()[0]}/save\n'
+        check.holds('what is told', told in found.err(), found.err())
+        check.same('FILE', place.text('a.txt'), left)
+        check.same('the text of the save', place.part('save'), b'abctext\n')
+        place.tells('--forget')
+        for name in glob.glob(place.path('*')):
+            os.unlink(name)
+
+
+@needs('cc')
+def emptied_by_save(check, place):
+    """A save is killed right after it has emptied a FILE with two names: a start by either name, and at any answer, restores the text."""
+    library = f'{place.top}/slow_sync.so'
+    subprocess.run(['cc', '-shared', '-fPIC', '-D_GNU_SOURCE', '-o', library, f'{os.path.dirname(__file__)}/slow_sync.c'], check=True)
+    slow = {'LD_PRELOAD': library, 'SLOW_CUT': '1', 'ASAN_OPTIONS': 'verify_asan_link_order=0'}
+    for name in ('a.txt', 'b.txt'):
+        place.put('a.txt', b'text\n')
+        os.link(place.path('a.txt'), place.path('b.txt'))
+        started = place.edit('a.txt', **slow).type(b'abc').sees(b'*').type(SAVE)
+        end = time.monotonic() + HANG
+        while place.text('a.txt') != b'' and time.monotonic() < end:
+            time.sleep(0.01)
+        for process in (started.run.job, started.run.child('bidi-saver'), started.run.child('bidi_edit')):
+            os.kill(process, signal.SIGKILL)
+        started.ends(-signal.SIGKILL)
+        check.same('FILE after the kill', place.text('b.txt'), b'')
+        found = place.start(name).answers(CHOICE, 'l').sees(b'text <abctext|>').type(QUIT).ends(0)
+        told = f'bidi-edit: a save of {name} was interrupted; its whole text has been restored\n'
+        check.holds('what is told', found.err().startswith(told), found.err())
+        check.same('FILE', place.text('a.txt'), b'abctext\n')
+        place.tells('--forget')
+        for path in glob.glob(place.path('*')):
+            os.unlink(path)
 
 
 def start_on_full_disk(check, place, disk, filler):
@@ -123,7 +187,7 @@ def make_room(check, started, filler):
     filler.truncate(0)
     filler.seek(0)
     # the cause stays the disk's
-    check.holds('the notices', started.run.pump(15, b'notice 6') and b'notice 5' not in started.run.output, started.run.output)
+    check.holds('the notices', started.run.pump(HANG, b'notice 6') and b'notice 5' not in started.run.output, started.run.output)
 
 
 @needs('root', 'mount')
@@ -189,9 +253,9 @@ def watched_files(check, place):
     folder = f'/proc/{started.run.child("bidi-watcher")}/fd'
     files = {os.readlink(f'{folder}/{number}') for number in os.listdir(folder)}
     session = place.sessions()[0]
-    check.holds('the session', {session, f'{session}/lock'} <= files, files)
-    check.holds('nothing else', all(name.startswith(('/dev/', 'pipe:')) for name in files - {session, f'{session}/lock'}), files)
+    check.holds('the session', session in files, files)
+    check.holds('nothing else', all(name.startswith(('/dev/', 'pipe:')) for name in files - {session}), files)
     started.type(QUIT).ends(0)
 
 
-CASES = [forgets, foreign_names, closed_files, renamed, torn, full_disk, read_only_disk, large, watched_files]
+CASES = [forgets, foreign_names, closed_files, renamed, torn, cut_by_another, emptied_by_save, full_disk, read_only_disk, large, watched_files]

@@ -1,7 +1,8 @@
 """The scene of the cases of keeping.py: a folder and a home for each, starts of the host in terminals, and what is typed and asked."""
 import glob, os, signal, subprocess, time
+import about
 from checks import Fault
-from terminals import Run
+from terminals import HANG, Run
 
 QUIT, SAVE = b'\x11', b'\x13'
 CHOICE = b'[r]ecover, [d]elete for good, [l]ater? '
@@ -25,9 +26,9 @@ class Started:
     def err(self):
         return open(self.err_path, encoding='utf-8').read()
 
-    def sees(self, text, seconds=15):
+    def sees(self, text):
         """Waits for a text in the terminal, and forgets all before it."""
-        if not self.run.pump(seconds, text):
+        if not self.run.pump(HANG, text):
             raise Fault('not seen', text, self.run.output[-500:], self.out(), self.err())
         self.run.output = self.run.output.partition(text)[2]
         return self
@@ -44,15 +45,15 @@ class Started:
         self.run.type(keys)
         return self
 
-    def ends(self, status, seconds=15):
+    def ends(self, status):
         """Waits for the end, and compares the status: an exit status, or less than 0 a signal's number."""
-        if not self.run.pump(seconds):
+        if not self.run.pump(HANG):
             raise Fault('goes on', self.run.output[-300:])
         self.run.drain()
         found = -os.WTERMSIG(self.run.status) if os.WIFSIGNALED(self.run.status) else os.WEXITSTATUS(self.run.status)
         if found != status:
             raise Fault(f'status {found}, and not {status}', self.out(), self.err(), self.run.output[-300:])
-        if left := self.run.left(3):
+        if left := self.run.left(HANG):
             raise Fault('processes are left', left)
         self.run.close()
         return self
@@ -93,7 +94,7 @@ class Place:
     def tells(self, *words, redirection='', **variables):
         """A start without a terminal: its status, standard output and error."""
         done = subprocess.run(['setsid', '-w', 'sh', '-c', f'exec "$@" {redirection}', 'sh', *self.before, self.host, *words], cwd=self.files, stdin=subprocess.DEVNULL, capture_output=True,
-                              env={**os.environ, 'TERM': 'xterm', **self.variables(variables)}, timeout=20)
+                              env={**os.environ, 'TERM': 'xterm', **self.variables(variables)}, timeout=HANG)
         return done.returncode, done.stdout.decode(), done.stderr.decode()
 
     def path(self, name):
@@ -119,8 +120,19 @@ class Place:
             return file.read()
 
     def put_part(self, name, text):
+        """Changes a file of the session, as if the editor had written it."""
+        about.put_part(self.sessions()[0], name, text)
+
+    def spoil(self, name, text):
+        """Changes a file of the session, as a failing disk may."""
         with open(f'{self.sessions()[0]}/{name}', 'wb') as file:
             file.write(text)
+
+    def fact(self, key):
+        return about.facts(self.sessions()[0]).get(key)
+
+    def put_fact(self, key, words):
+        about.put_fact(self.sessions()[0], key, words)
 
     def leave(self, name='a.txt', keys=b'abc'):
         """Leaves a session of a file with keys that are not saved, by a hangup."""

@@ -1,8 +1,7 @@
-"""Kinds of terminals: titles, reordering, notes, and the terminal around tmux."""
-import os, pty, select, termios
+"""Kinds of terminals: titles, reordering, keys, hints, and the terminal around tmux or GNU screen."""
+import os
 from cases import QUIT
-from terminals import Run
-from tree import write
+from terminals import HANG, Run
 
 # The beginnings of what sets a title, and turns reordering on or off in two terminals.
 TITLE = b'\x1b]2;'
@@ -14,11 +13,11 @@ def see(tree, home=None, **variables):
     """What a session writes in a terminal with these variables; where it does not end well, with words before it that say so."""
     variables.setdefault('XTERM_VERSION', '')
     run = Run([tree.host, tree.new_file('kinds')], **{**tree.variables(home=home), **variables})
-    run.pump(5, b'hello')
+    run.pump(HANG, b'hello')
     run.type(QUIT)
-    run.pump(5)
+    run.pump(HANG)
     run.drain()
-    ok = run.status == 0 and run.is_restored() and not run.left(3)
+    ok = run.status == 0 and run.is_restored() and not run.left(HANG)
     run.close()
     return run.output if ok else b'(it did not end well)' + run.output
 
@@ -37,85 +36,60 @@ def titles(check, tree):
 
 def reordering(check, tree):
     """Terminals with a sequence of their own."""
-    home = tree.file('konsole')
-    os.makedirs(f'{home}/.local/share/konsole')
     konsole = {'TERM': 'xterm-256color', 'KONSOLE_VERSION': '221203'}
-    output = see(tree, home, **konsole)
+    output = see(tree, **konsole)
     check.same('konsole: off and on', (output.count(KONSOLE + b'false\x07'), output.count(KONSOLE + b'true\x07')), (1, 1))
-    output = see(tree, home, **konsole, VTE_VERSION='7000')
-    check.holds('konsole: not known beside another', KONSOLE not in output, output)
-    output = see(tree, home, **konsole, SSH_CONNECTION='a b')
-    check.holds('konsole: not turned on over ssh', KONSOLE + b'true' not in output and KONSOLE + b'false' in output, output)
-    write(f'{home}/.local/share/konsole/own.profile', '[Terminal Features]\nBidiRenderingEnabled=false\n', 0o644)
-    output = see(tree, home, **konsole)
-    check.holds('konsole: left off by a profile', KONSOLE + b'true' not in output and KONSOLE + b'false' in output, output)
-    home = tree.file('mlterm')
-    os.makedirs(f'{home}/.mlterm')
-    mlterm = {'TERM': 'mlterm', 'MLTERM': '3.9.2'}
-    output = see(tree, home, **mlterm)
+    for name, more in (('beside another', {'VTE_VERSION': '7000'}), ('in tmux', {'TMUX': '/no/such/socket,1,0'}), ('in screen', {'STY': '1.pts'})):
+        output = see(tree, **konsole, **more)
+        check.holds(f'konsole: not known {name}', KONSOLE not in output and b'hello' in output, output)
+    output = see(tree, TERM='mlterm', MLTERM='3.9.2')
     check.same('mlterm: off and on', (output.count(MLTERM + b'false\x07'), output.count(MLTERM + b'true\x07')), (1, 1))
-    write(f'{home}/.mlterm/main', '# own\n use_ctl = false\n', 0o644)
-    check.holds('mlterm: not told where its file does', MLTERM not in see(tree, home, **mlterm))
     output = see(tree, TERM='xterm', XTERM_VERSION='XTerm(379)')
     check.holds('xterm: no such sequence', KONSOLE not in output and MLTERM not in output)
 
 
-def notes(check, tree):
-    """The setting of a terminal that reverses words is told, unless it is set."""
-    kitty = b"bidi-edit: kitty shows right-to-left words reversed: the line 'force_ltr yes' in its kitty.conf prevents that\r\n"
-    qterminal = b"bidi-edit: qterminal shows right-to-left words reversed: the line 'enabledBidiSupport=false' in its qterminal.ini prevents that\r\n"
-    home = tree.file('noted')
-    os.makedirs(f'{home}/.config/kitty')
-    check.holds('kitty: told', see(tree, home, TERM='xterm-kitty').startswith(kitty))
-    check.holds('kitty: not over ssh', kitty not in see(tree, home, TERM='xterm-kitty', SSH_CONNECTION='a b'))
-    check.holds('kitty: known by its window', kitty in see(tree, home, TERM='xterm-256color', KITTY_WINDOW_ID='1'))
-    write(f'{home}/.config/kitty/other.conf', '# own\n  force_ltr yes  \n', 0o644)
-    os.mkfifo(f'{home}/.config/kitty/pipe.conf')
-    check.holds('kitty: not told where it is set', kitty not in see(tree, home, TERM='xterm-kitty'))
-    check.holds('kitty: another folder', kitty in see(tree, home, TERM='xterm-kitty', KITTY_CONFIG_DIRECTORY='/none'))
-    check.holds('qterminal: told', qterminal in see(tree, home, TERM='xterm-256color', TERM_PROGRAM='qterminal'))
-    os.makedirs(f'{home}/.config/qterminal.org')
-    write(f'{home}/.config/qterminal.org/qterminal.ini', '[General]\nenabledBidiSupport=false\n', 0o644)
-    check.holds('qterminal: not told where it is set', qterminal not in see(tree, home, TERM='xterm-256color', TERM_PROGRAM='qterminal'))
+def modified_keys(check, tree):
+    """xterm and its kin are asked to tell modified keys, until the end."""
+    xterm = {'XTERM_VERSION': 'XTerm(379)'}
+    for variables, is_asked in (({'TERM': 'xterm-256color', **xterm}, True), ({'TERM': 'foot'}, True), ({'TERM': 'xterm-256color'}, False),
+                                ({'TERM': 'xterm', **xterm, 'MLTERM': '3.9.2'}, False), ({'TERM': 'mlterm', 'MLTERM': '3.9.2'}, False),
+                                ({'TERM': 'tmux-256color', 'TMUX': '/no/such/socket,1,0', **xterm}, False),
+                                ({'TERM': 'screen', 'STY': '1.pts', **xterm}, False), ({'TERM': 'linux'}, False), ({'TERM': 'rxvt-unicode'}, False), ({'TERM': 'st-256color'}, False)):
+        output = see(tree, **variables)
+        check.same(f'modified keys: {variables}', (output.count(b'\x1b[>4;1m'), output.count(b'\x1b[>4m')), (int(is_asked),) * 2)
 
 
-def in_tmux(check, tree):
-    """The terminal around tmux, by a command in place of tmux, which answers with the name of a terminal (`slave`) and its kind."""
-    master, slave = pty.openpty()
-    termios.tcsetwinsize(slave, (3, 80))
-    settings = termios.tcgetattr(slave)
-    settings[1] &= ~termios.OPOST
-    termios.tcsetattr(slave, termios.TCSANOW, settings)
-    os.makedirs(tree.file('bin'), exist_ok=True)
-    tmux = {'TERM': 'tmux-256color', 'TMUX': '/no/such/socket,1,0', 'PATH': f"{tree.file('bin')}:{os.environ['PATH']}"}
-
-    def outside(answer, **variables):
-        """What a session writes in tmux, and to the terminal around it, where the command in place of tmux is `answer`."""
-        write(f"{tree.file('bin')}/tmux", f'#!/bin/sh\n{answer}\n')
-        output, told = see(tree, **tmux, **variables), b''
-        while select.select([master], [], [], 0)[0]:
-            told += os.read(master, 65536)
-        return output, told
-
-    name = os.ttyname(slave)
-    output, told = outside(f"echo '{name} VTE(0.70.2)'")
-    # VTE keeps this mode by row, so the host goes to each, and the cursor back to where it was
-    check.same('tmux in VTE: each row', told, b''.join(
-        b'\x1b[8%c\x1b7' % letter + b''.join(b'\x1b[%d;1H\x1b[8%c' % (row, letter) for row in (1, 2, 3)) + b'\x1b8' for letter in b'lh'))
-    check.holds('tmux in VTE: the title', TITLE in output, output)
-    output, told = outside(f"echo '{name} Konsole 22.12.3'")
-    check.same('tmux in konsole', told, b'\x1b[8l' + KONSOLE + b'false\x07\x1b[8h' + KONSOLE + b'true\x07')
-    check.holds('tmux in konsole: tmux gets no such sequence', KONSOLE not in output, output)
-    output, told = outside(f"echo '{name} XTerm(379)'")
-    check.same('tmux in xterm', told, b'\x1b[8l\x1b[8h')
-    output, told = outside('echo')
-    check.holds('tmux in control mode', told == b'' and b'hello' in output, (output, told))
-    output, told = outside('sleep 60')
-    check.holds('a tmux that does not answer', told == b'' and b'hello' in output, (output, told))
-    output, told = outside(f"echo '{tree.file('none')} VTE(0.70.2)'")
-    check.holds('a terminal around that is not there', told == b'' and b'hello' in output, (output, told))
-    os.close(master)
-    os.close(slave)
+def alt(check, tree):
+    """Alt is Escape in a terminal around tmux or GNU screen too: tmux and screen hand that on."""
+    for variables, on, off in (({'TMUX': '/no/such/socket,1,0'}, b'\x1bPtmux;\x1b\x1b[?1036s\x1b\x1b[?1036h\x1b\\', b'\x1bPtmux;\x1b\x1b[?1036r\x1b\\'),
+                               ({'STY': '1.pts'}, b'\x1bP\x1b[?1036s\x1b[?1036h\x1b\\', b'\x1bP\x1b[?1036r\x1b\\')):
+        output = see(tree, TERM='screen', **variables)
+        check.holds(f'alt: {variables}', 0 < output.find(on) < output.find(off), output)
+    output = see(tree, TERM='xterm')
+    check.holds('alt: not elsewhere', b'\x1bP' not in output, output)
 
 
-CASES = [titles, reordering, notes, in_tmux]
+def hints(check, tree):
+    """The first start in a terminal that reverses words says so in the last row, until a key is pressed."""
+    home = tree.file('hints')
+    os.makedirs(home)
+    for variables, name in (({'TERM': 'xterm-kitty'}, b'kitty'), ({'TERM': 'xterm-256color', 'TERM_PROGRAM': 'qterminal'}, b'qterminal')):
+        hint = b'\x1b7\x1b[24;1H\x1b[0m\x1b[K' + name + b' reverses Hebrew and Arabic words: see \'man bidi-edit\', TERMINALS\x1b8'
+        variables.setdefault('XTERM_VERSION', '')
+        run = Run([tree.host, tree.new_file('hints')], **{**tree.variables('notes', home), **variables})
+        check.holds(f'{name}: told', run.pump(HANG, hint), run.output)
+        run.rest(0.5)
+        at = len(run.output)
+        run.type(b'a')
+        run.pump(HANG, b'hello <a>')
+        run.rest(0.3)
+        check.holds(f'{name}: until a key', run.output[at:].count(b'hello <a>') >= 2, run.output[at:])
+        run.type(QUIT)
+        run.pump(HANG)
+        run.close()
+        output = see(tree, home, **variables)
+        check.holds(f'{name}: once', b'reverses' not in output, output)
+    check.holds('others: not told', b'reverses' not in see(tree, tree.file('other'), TERM='xterm-256color', KONSOLE_VERSION='221203'))
+
+
+CASES = [titles, reordering, modified_keys, alt, hints]

@@ -1,10 +1,10 @@
 """Reports of the mouse: asked for at the start and after a stop, taken back however the editor ends, and left alone where they are not
 wanted or would be keys; and the stop itself (SIGTSTP), in which the terminal is as before."""
-import os, signal, time
+import os, signal
 from cases import QUIT, finish, frames, start
-from ends import LIMIT, TAIL, restored, state
+from ends import TAIL, restored, state
 from kinds import see
-from terminals import Run
+from terminals import HANG, Run
 
 # In numbers (1006) before at all (1002), and taken back the other way round, so that no report has the older form.
 ON, OFF = b'\x1b[?1006h\x1b[?1002h', b'\x1b[?1002l\x1b[?1006l'
@@ -21,14 +21,6 @@ def reports(output):
     return told
 
 
-def wait_until(run, is_so):
-    """Reads until this is so, or for some seconds. Returns whether it is."""
-    end = time.perf_counter() + LIMIT
-    while not is_so() and time.perf_counter() < end:
-        run.rest(0.01)
-    return is_so()
-
-
 def mouse_ends(check, tree):
     """Reports begin behind the marks of pastes and before the first painting, and end however the editor does."""
     def kill_program(run):
@@ -42,10 +34,10 @@ def mouse_ends(check, tree):
             ('the host killed', lambda run: os.kill(run.job, signal.SIGKILL), signal.SIGKILL),
             ('the job killed', lambda run: os.killpg(run.job, signal.SIGKILL), signal.SIGKILL)):
         run = start(tree)
-        check.holds(f'mouse, {name}: painted', run.pump(5, b'hello'), run.output)
+        check.holds(f'mouse, {name}: painted', run.pump(HANG, b'hello'), run.output)
         check.holds(f'mouse, {name}: asked for', PASTES + ON in run.output.partition(b'hello')[0], run.output)
         act(run)
-        run.pump(5, TAIL)
+        run.pump(HANG, TAIL)
         run.rest(0.1)
         check.same(f'mouse, {name}: taken back', reports(run.output), ['on', 'off'])
         finish(check, run, f'mouse, {name}', status)
@@ -55,9 +47,9 @@ def unwanted_mouse(check, tree):
     """Nothing is asked for, and nothing taken back, where the command line says so."""
     for name, act, status in (('Quit', lambda run: run.type(QUIT), 0), ('KILL', lambda run: os.kill(run.job, signal.SIGKILL), signal.SIGKILL)):
         run = start(tree, words=['--no-mouse'])
-        check.holds(f'no mouse, {name}: painted', run.pump(5, b'hello'), run.output)
+        check.holds(f'no mouse, {name}: painted', run.pump(HANG, b'hello'), run.output)
         act(run)
-        run.pump(5, TAIL)
+        run.pump(HANG, TAIL)
         run.rest(0.1)
         check.same(f'no mouse, {name}: no reports', reports(run.output), [])
         check.holds(f'no mouse, {name}: pastes are marked all the same', PASTES in run.output, run.output)
@@ -79,7 +71,7 @@ def mouse_kinds(check, tree):
 
 def words_of(run):
     """The words of the program, once it paints."""
-    run.pump(5, b'hello')
+    run.pump(HANG, b'hello')
     with open(f"/proc/{run.child('bidi_edit')}/cmdline", 'rb') as file:
         return file.read().split(b'\0')
 
@@ -99,7 +91,7 @@ def clipboard(check, tree):
         check.same(f'clipboard: {words} {variables}', found.count(b'--clipboard'), int(is_told))
         check.holds(f'clipboard: {words} {variables}: the last word is FILE', found[-2] == run.file.encode() and b'--erase' in found, found)
         run.type(QUIT)
-        run.pump(5)
+        run.pump(HANG)
         check.same(f'clipboard: {words} {variables}: status', run.status, 0)
         run.close()
 
@@ -107,12 +99,12 @@ def clipboard(check, tree):
 def mouse_after_stops(check, tree):
     """After a SIGSTOP, which leaves the terminal as it was, reports are asked for again."""
     run = start(tree)
-    run.pump(5, b'hello')
+    run.pump(HANG, b'hello')
     os.killpg(run.job, signal.SIGSTOP)
     run.rest(0.2)
     at = len(run.output)
     os.killpg(run.job, signal.SIGCONT)
-    wait_until(run, lambda: b'hello' in run.output[at:])
+    run.waits(lambda: b'hello' in run.output[at:])
     check.same('a stop: asked for again', reports(run.output), ['on', 'on'])
     check.holds('a stop: before it is painted', PASTES + ON in run.output[at:].partition(b'hello')[0], run.output[at:])
     run.type(QUIT)
@@ -124,7 +116,7 @@ def suspend(run, group=False):
     """Asks for a stop, of the whole job or of the host alone. Returns whether it is stopped, with the terminal as before."""
     at = len(run.output)
     (os.killpg if group else os.kill)(run.job, signal.SIGTSTP)
-    is_stopped = wait_until(run, lambda: state(run.job) == 'T')
+    is_stopped = run.waits(lambda: state(run.job) == 'T')
     run.drain()
     return is_stopped and run.is_restored() and run.output[at:].endswith(TAIL) and not restored(run.output)
 
@@ -133,7 +125,7 @@ def take_up(run):
     """Continues the job. Returns what is written until it is painted again, and some time longer."""
     at = len(run.output)
     os.killpg(run.job, signal.SIGCONT)
-    wait_until(run, lambda: b'hello' in run.output[at:])
+    run.waits(lambda: b'hello' in run.output[at:])
     run.rest(0.2)
     return run.output[at:]
 
@@ -142,7 +134,7 @@ def suspended(check, tree):
     """SIGTSTP gives the terminal back before the stop, also in the midst of output, and takes it again after it."""
     for name, ways, group in (('the host', 'notes', False), ('the job', 'notes', True), ('in output', 'notes,chatty', True)):
         run = start(tree, ways)
-        run.pump(5, b'hello')
+        run.pump(HANG, b'hello')
         for turn in range(3):
             run.type(b'abc' * 20)
             check.holds(f'suspended, {name}, {turn}: stopped, and the terminal as before', suspend(run, group), run.output[-300:])
@@ -150,7 +142,7 @@ def suspended(check, tree):
             check.holds(f'suspended, {name}, {turn}: all is set again', taken.startswith(b'\x1b7') and b'\x1b[?1049h' in taken and PASTES + ON in taken and b'\x1b]2;' in taken, taken)
             check.holds(f'suspended, {name}, {turn}: raw, and not restored', not run.is_restored() and TAIL not in taken, taken)
         check.same(f'suspended, {name}: reports', reports(run.output), ['on', 'off'] * 3 + ['on'])
-        check.holds(f'suspended, {name}: no key is lost', run.pump(5, b'> 180 '), run.output[-100:])
+        check.holds(f'suspended, {name}: no key is lost', run.pump(HANG, b'> 180 '), run.output[-100:])
         run.type(QUIT)
         finish(check, run, f'suspended, {name}', 0)
         check.same(f'suspended, {name}: the size is told after each', [body for letter, body in frames(run) if letter == 'z'], [b'\0\x18\0\x50'] * 3)
@@ -160,14 +152,14 @@ def suspended_ends(check, tree):
     """A host that is told to end, or is killed, in a stop leaves the terminal to others."""
     for name, number, status in (('TERM', signal.SIGTERM, signal.SIGTERM), ('KILL', signal.SIGKILL, signal.SIGKILL)):
         run = start(tree)
-        run.pump(5, b'hello')
+        run.pump(HANG, b'hello')
         run.type(b'abc')
-        run.pump(5, b'<abc>')
+        run.pump(HANG, b'<abc>')
         check.holds(f'suspended, then {name}: stopped', suspend(run), run.output[-300:])
         at = len(run.output)
         os.kill(run.job, number)
         os.killpg(run.job, signal.SIGCONT)
-        run.pump(LIMIT)
+        run.pump(HANG)
         check.holds(f'suspended, then {name}: no mode is set or taken back', b'\x1b' not in run.output[at:].replace(b'\x1b[H\x1b[2J', b''), run.output[at:])
         finish(check, run, f'suspended, then {name}', status)
 
@@ -175,33 +167,43 @@ def suspended_ends(check, tree):
 def suspended_pastes(check, tree):
     """A stop waits for the end of a marked paste, for two seconds at most."""
     run = start(tree, 'notes')
-    run.pump(5, b'hello')
+    run.pump(HANG, b'hello')
     run.type(b'\x1b[200~one')
     run.rest(0.1)
     os.kill(run.job, signal.SIGTSTP)
     run.rest(0.5)
     check.holds('a stop in a paste: not yet', state(run.job) != 'T')
     run.type(b'two\x1b[201~')
-    check.holds('a stop in a paste: behind its end', wait_until(run, lambda: state(run.job) == 'T') and run.is_restored())
+    check.holds('a stop in a paste: behind its end', run.waits(lambda: state(run.job) == 'T') and run.is_restored())
+    take_up(run)
+    run.type(b'\x1b[200~')
+    run.rest(0.1)
+    os.kill(run.job, signal.SIGTSTP)
+    for _ in range(16):
+        run.type(b'line')
+        run.rest(0.2)
+    check.holds('a stop in a paste that goes on: not yet', state(run.job) != 'T')
+    run.type(b'\x1b[201~')
+    check.holds('a stop in a paste that goes on: behind its end', run.waits(lambda: state(run.job) == 'T') and run.is_restored())
     take_up(run)
     run.type(b'\x1b[200~three')
     run.rest(0.1)
     os.kill(run.job, signal.SIGTSTP)
-    check.holds('a stop in a paste without an end', wait_until(run, lambda: state(run.job) == 'T') and run.is_restored())
+    check.holds('a stop in a paste without an end', run.waits(lambda: state(run.job) == 'T') and run.is_restored())
     take_up(run)
     run.type(QUIT)
     finish(check, run, 'a stop in a paste', 0)
     check.same('a stop in a paste: all of it came', b''.join(body for letter, body in frames(run) if letter == 'b'),
-               b'\x1b[200~onetwo\x1b[201~\x1b[200~three' + QUIT)
+               b'\x1b[200~onetwo\x1b[201~\x1b[200~' + b'line' * 16 + b'\x1b[201~\x1b[200~three' + QUIT)
 
 
 def ignored_stops(check, tree):
     """A stop that the caller ignores is ignored."""
     run = Run(['sh', '-c', f"trap '' TSTP; exec '{tree.host}' '{tree.new_file('ignored')}'"], **tree.variables())
-    run.pump(5, b'hello')
+    run.pump(HANG, b'hello')
     os.kill(run.job, signal.SIGTSTP)
     run.type(b'abc')
-    check.holds('a stop that the caller ignores', run.pump(5, b'<abc>') and state(run.job) != 'T', run.output)
+    check.holds('a stop that the caller ignores', run.pump(HANG, b'<abc>') and state(run.job) != 'T', run.output)
     run.type(QUIT)
     finish(check, run, 'a stop that the caller ignores', 0)
 

@@ -1,10 +1,11 @@
-/* save_driver [--backup FOLDER] [--itself] [--lost] FILE: plays the program's side of saves, for the checks of saves. It opens FILE as
+/* save_driver [--backup FOLDER] [--itself] [--lost] [--force] [--mode OCTAL] FILE: plays the program's side of saves, for the checks of saves. It opens FILE as
  * the editor does, says `opened PATH` or the refusal, and obeys lines of standard input, each with a line of answer:
  *   save PATH      saves the bytes of a file: `saved`, or the cause
  *   begin          the first part of a save alone; then `put PATH`, and `commit`
  *   look           tells FILE's stamp: device, inode, size
  *   torn           the name of the backup, `-` without one, `=` for the one in the folder
  *   facts          reason for saves in place
+ *   make PATH      makes the new file PATH.copy, with the bytes of PATH and the mode 640
  * Exit status 1: FILE was refused; 2: usage. */
 #include <errno.h>
 #include <fcntl.h>
@@ -82,7 +83,7 @@ static const char *hear(void) {
     is_killed = false;
     if (!read_frame(from_child, room, &frame)) return "no answer";
     if (frame.letter == FRAME_DONE) return causes[0];
-    if (frame.letter != FRAME_FAILED || frame.length != 1 || room[0] > SAVE_OTHER) return "wrong answer";
+    if (frame.letter != FRAME_FAILED || frame.length != 1 || room[0] > CAUSE_OTHER) return "wrong answer";
     return causes[room[0]];
 }
 
@@ -131,6 +132,16 @@ static const char *torn(void) {
     return name ? name : "=";
 }
 
+/* Makes a copy of a file as `make` says. */
+static const char *make(const char *path) {
+    char copy[PATH_MAX];
+    int source = open(path, O_RDONLY | O_CLOEXEC);
+    if (source < 0 || snprintf(copy, sizeof copy, "%s.copy", path) >= (int)sizeof copy) die(path);
+    enum cause cause = make_file(AT_FDCWD, copy, source, 0640);
+    close(source);
+    return causes[cause];
+}
+
 static void obey(char *line) {
     line[strcspn(line, "\n")] = 0;
     const char *said = "?";
@@ -140,6 +151,7 @@ static void obey(char *line) {
     else if (strncmp(line, "put ", 4) == 0) put(line + 4), said = "put";
     else if (strcmp(line, "commit") == 0) said = commit();
     else if (strcmp(line, "torn") == 0) said = torn();
+    else if (strncmp(line, "make ", 5) == 0) said = make(line + 5);
     else if (strcmp(line, "facts") == 0) said = reason_text(find_in_place(&file.facts, &file.stamp, &file.folder_facts));
     else if (strcmp(line, "look") == 0) {
         struct file_stamp stamp;
@@ -153,31 +165,33 @@ static void obey(char *line) {
 }
 
 int main(int count, char **words) {
-    int pipes[2][2], backup = -1, at = 1;
+    int pipes[2][2], backup = -1, mode = -1, at = 1;
     bool is_itself = false, is_lost = false, is_forced = false;
     for (; at < count && strncmp(words[at], "--", 2) == 0; at++) {
         if (strcmp(words[at], "--itself") == 0) is_itself = true;
         else if (strcmp(words[at], "--lost") == 0) is_lost = true;
         else if (strcmp(words[at], "--force") == 0) is_forced = true;
+        else if (strcmp(words[at], "--mode") == 0 && at + 1 < count) mode = (int)strtol(words[++at], NULL, 8);
         else if (strcmp(words[at], "--backup") == 0 && at + 1 < count) backup = open(words[++at], O_PATH | O_DIRECTORY | O_CLOEXEC);
     }
     if (at + 1 != count || pipe2(pipes[0], O_CLOEXEC) != 0 || pipe2(pipes[1], O_CLOEXEC) != 0) {
-        fputs("usage: save_driver [--backup FOLDER] [--itself] [--lost] [--force] FILE\n", stderr);
+        fputs("usage: save_driver [--backup FOLDER] [--itself] [--lost] [--force] [--mode OCTAL] FILE\n", stderr);
         return 2;
     }
     fcntl(pipes[0][1], F_SETFL, O_NONBLOCK);
     request = pipes[0][0], to_child = pipes[0][1], from_child = pipes[1][0], answer = pipes[1][1];
-    const char *message = is_lost ? open_lost_file(&file, words[at]) : open_file(&file, words[at]);
+    enum cause cause = is_lost ? open_lost_file(&file, words[at]) : open_file(&file, words[at]);
     bool is_in_place = find_in_place(&file.facts, &file.stamp, &file.folder_facts) != NO_REASON;
-    if (!message && !is_forced) message = refuse_access(&file, is_in_place);
-    if (message) {
-        printf("%s\n", message);
+    if (cause == CAUSE_NONE && !is_forced) cause = check_access_to(&file, is_in_place);
+    if (cause != CAUSE_NONE) {
+        printf("%s\n", file_message(&file, cause, 0));
         return 1;
     }
     if (!saver_open(&saver, &file)) die("saver");
     saver.backup_folder = backup;
     saver.is_itself = is_itself;
-    message = leftovers_line(&file);
+    saver.lost_mode = mode;
+    const char *message = leftovers_line(&file);
     printf("opened %s%s%s\n", file.path, message ? ": " : "", message ? message : "");
     fflush(stdout);
     char line[8192];

@@ -5,13 +5,15 @@ DRIVER is save_driver, built from save_driver.c, which plays the program's side 
 saves by itself, and DATA is the folder of Unicode's tables: most checks fail there. Some checks need root, strace, setfacl or mount,
 and are left out without. CHECKS in the environment names the ones to be run. Exit status 1: one failed.
 """
+import fcntl
 import os
 import shutil
 import subprocess
 import sys
+import tempfile
 
 import save_paths
-from checks import Report, needs, try_case
+from checks import Report, Skipped, needs, try_case
 from save_scene import OTHER, Place, is_old, mode_of, open_file, read, set_list, slow, top, wait_until_late, write
 
 
@@ -152,8 +154,8 @@ def written_before_it_is_opened(check, place):
 @needs("strace")
 def written_while_it_is_synced(check, place):
     """Another program writes FILE once the save has filled it, while the disk takes it: the next save tells of it."""
-    # the first two are of the backup and its folder
-    editor = in_place(place, under=slow("fsync", 3, which=":when=3"))
+    # the first three are of the backup, of the record of steps, and of their folder
+    editor = in_place(place, under=slow("fsync", 3, which=":when=4"))
     editor.start_save("new\n")
     wait_until_late(editor.process)
     write(place.note, "theirs\n")
@@ -163,6 +165,121 @@ def written_while_it_is_synced(check, place):
     check.same("the third save", editor.save("newer\n"), "saved")
     check.same("FILE after the third save", read(place.note), "newer\n")
     editor.end()
+
+
+def save_both(check, place, first, second):
+    """Two editors that have opened FILE save, while the first one's ftruncate is late: one has saved, and the other says that FILE changed."""
+    first.start_save("first\n")
+    wait_until_late(first.process)
+    said = {"second\n": second.save("second\n"), "first\n": first.end_save()}
+    check.same("what is said", sorted(said.values()), ["file changed on disk", "saved"])
+    check.same("what is said of FILE's text", said.get(read(place.note)), "saved")
+    first.end()
+    second.end()
+
+
+@needs("strace")
+def both_save_in_place(check, place):
+    """Two editors overwrite FILE at the same time."""
+    write(place.note, "old\n")
+    for way in "--backup", "--itself":
+        owns = [tempfile.mkdtemp(dir=place.folder) for _ in range(2)] if way == "--backup" else [None, None]
+        editors = [open_file(place.note, way, *([own] if own else []), under=slow("ftruncate", 3) if at == 0 else ()) for at, own in enumerate(owns)]
+        save_both(check, place, *editors)
+
+
+@needs("root", "strace")
+def both_save_where_no_folder_is_read(check, place):
+    """The same in a folder that they cannot read, and so cannot lock."""
+    write(place.note, "old\n", 0o666)
+    os.mkdir(f"{place.folder}/owns", 0o777)
+    os.chmod(f"{place.folder}/owns", 0o777)
+    other = ["setpriv", "--reuid", str(OTHER), "--regid", str(OTHER), "--clear-groups"]
+    owns = [tempfile.mkdtemp(dir=f"{place.folder}/owns") for _ in range(2)]
+    for own in owns:
+        os.chown(own, OTHER, OTHER)
+    os.chmod(place.folder, 0o711)
+    first = open_file(place.note, "--backup", owns[0], under=slow("ftruncate", 3, *other))
+    save_both(check, place, first, open_file(place.note, "--backup", owns[1], under=other))
+
+
+def locked_by_another(check, place):
+    """Another program keeps FILE or its folder locked: nothing is written until it does not."""
+    for way in (), ("--itself",):
+        write(place.note, "old\n")
+        editor = open_file(place.note, *way)
+        lock = os.open(place.note if way else place.folder, os.O_RDONLY)
+        fcntl.flock(lock, fcntl.LOCK_EX)
+        check.same("the save", editor.save("new\n"), "not permitted")
+        check.same("FILE", read(place.note), "old\n")
+        check.same("what is there", os.listdir(place.folder), ["note"])
+        os.close(lock)
+        check.same("the next save", editor.save("new\n"), "saved")
+        check.same("FILE after it", read(place.note), "new\n")
+        editor.end()
+
+
+@needs("strace")
+def failing_syncs(check, place):
+    """A save whose sync fails is told as failed, by any error; the next one, in which it fails again, does not take FILE for another's."""
+    # of the new file and its folder; of the backup, of the record of steps, of their folder and of FILE
+    for words, syncs in ((), 2), (("--backup", f"{place.folder}/own"), 4):
+        os.makedirs(f"{place.folder}/own", exist_ok=True)
+        before = sorted(os.listdir(place.folder))
+        for at in range(1, syncs + 1):
+            for error, cause in ("EIO", "disk error"), ("EROFS", "read-only disk"), ("ENOSPC", "no space"):
+                write(place.note, "old\n")
+                under = ["strace", "-f", "-qq", "-o", "/dev/null", "-e", "trace=fsync", "-e", f"inject=fsync:error={error}:when={at}"]
+                editor = open_file(place.note, *words, under=under)
+                what = f"with {error} at sync {at} of {syncs}"
+                check.same(f"the save {what}", editor.save("new\n"), cause)
+                check.same(f"FILE {what}", read(place.note), "old\n")
+                check.same(f"what is there {what}", sorted({*os.listdir(place.folder)} - {"note"}), [name for name in before if name != "note"])
+                check.same(f"the next save {what}", editor.save("newer\n"), cause)
+                editor.end()
+
+
+@needs("root", "mount")
+def linked_on_overlay(check, place):
+    """An overlay copies a file with two names as it is opened for writing: that is no change by another program."""
+    for name in "lower", "upper", "work", "merged":
+        os.mkdir(f"{place.folder}/{name}")
+    write(f"{place.folder}/lower/note", "old\n")
+    os.link(f"{place.folder}/lower/note", f"{place.folder}/lower/other")
+    layers = ",".join(f"{layer}dir={place.folder}/{name}" for layer, name in (("lower", "lower"), ("upper", "upper"), ("work", "work")))
+    if subprocess.run(["mount", "-t", "overlay", "overlay", "-o", layers, f"{place.folder}/merged"], capture_output=True).returncode != 0:
+        raise Skipped("no overlay can be mounted")
+    try:
+        editor = open_file(f"{place.folder}/merged/note", "--itself")
+        check.same("the first save", editor.save("new\n"), "saved")
+        check.same("FILE", read(f"{place.folder}/merged/note"), "new\n")
+        check.same("the second save", editor.save("newer\n"), "saved")
+        write(f"{place.folder}/merged/note", "theirs\n")
+        check.same("the save after a change", editor.save("new\n"), "file changed on disk")
+        editor.end()
+    finally:
+        subprocess.run(["umount", f"{place.folder}/merged"], check=True)
+
+
+@needs("root", "mount")
+def full_in_place(check, place):
+    """The disk is full while FILE is overwritten: FILE has its old text again, and the editor knows it."""
+    disk = f"{place.folder}/disk"
+    os.mkdir(disk)
+    os.mkdir(f"{place.folder}/own")
+    subprocess.run(["mount", "-t", "tmpfs", "-o", "size=64k", "tmpfs", disk], check=True)
+    try:
+        write(f"{disk}/note", "old\n")
+        editor = open_file(f"{disk}/note", "--backup", f"{place.folder}/own")
+        check.same("the save", editor.save("new\n" * 20000), "no space")
+        check.same("FILE", read(f"{disk}/note"), "old\n")
+        check.same("the backup", os.listdir(f"{place.folder}/own"), [])
+        check.same("whether FILE is torn", editor.ask("torn"), "-")
+        check.same("a later save", editor.save("new\n"), "saved")
+        check.same("FILE after it", read(f"{disk}/note"), "new\n")
+        editor.end()
+    finally:
+        subprocess.run(["umount", disk], check=True)
 
 
 # ---- rights
@@ -232,6 +349,22 @@ def default_list(check, place):
     editor.end()
 
 
+@needs("setfacl", "root")
+def default_list_and_gone(check, place):
+    """The folder has a list for new files: neither a FILE that is gone, of which its session knows the mode, nor a copy gets rights by it."""
+    set_list(place.folder, "-d", "-m", f"u:{OTHER}:rwx")
+    editor = open_file(place.note, "--mode", "640")
+    check.same("the save", editor.save("new\n"), "saved")
+    check.same("FILE", read(place.note), "new\n")
+    check.same("the copy", editor.ask(f"make {place.note}"), "saved")
+    check.same("a second copy", editor.ask(f"make {place.note}"), "disk error")
+    for path in place.note, f"{place.note}.copy":
+        check.same("whether the other reads it", rights_of_other(path), False)
+        check.same("the mode", oct(mode_of(path)), oct(0o640))
+        check.same("its text", read(path), "new\n")
+    editor.end()
+
+
 @needs("setfacl", "root", "strace")
 def default_list_amid_save(check, place):
     """The folder is given the list after the save has begun."""
@@ -283,10 +416,13 @@ def ten_names(check, place):
 
 CASES = [
     link_in_place, link_behind_a_link, link_led_elsewhere, both_save, replaced_meanwhile, made_meanwhile, list_on_file, list_and_gone,
-    list_amid_save, default_list, default_list_amid_save, draft_is_closed, ten_names, *save_paths.CASES,
+    list_amid_save, default_list, default_list_and_gone, default_list_amid_save, draft_is_closed, ten_names, *save_paths.CASES,
 ]
 # of saves into FILE itself, and of the opening, which the old program leaves to others
-NEW_CASES = [written_after_the_exchange, written_before_it_is_opened, written_while_it_is_synced, *save_paths.NEW_CASES]
+NEW_CASES = [
+    written_after_the_exchange, written_before_it_is_opened, written_while_it_is_synced, both_save_in_place, both_save_where_no_folder_is_read,
+    locked_by_another, failing_syncs, linked_on_overlay, full_in_place, *save_paths.NEW_CASES,
+]
 
 
 def main():

@@ -22,6 +22,7 @@ top = tempfile.mkdtemp()
 os.chmod(top, 0o755)
 OLD, NEW = "ab\ncd\nef\n", "xab\nycd\nzef\n" + "a" * 300000
 DRAFT = re.compile(r"note\.[a-z0-9]{8}\.bx")
+SYNCS = "fsync", "syncfs"
 LEAST = 1000
 LIMIT = 60
 # scenes to be checked alone, as plain/beside/ or made/beside/tmpfile
@@ -116,14 +117,14 @@ class Scene:
             return read(f"{self.folder}/{name}")
         return None
 
-    def check_whole(self, check, answer):
+    def check_whole(self, check, answer, may_be_new=False):
         """After a save that was interrupted, or told to have failed."""
         state = self.state()
         if state == "torn":
             check.same("whether a torn FILE is written in place", self.is_in_place(), True)
             check.same("whether the backup of a torn FILE has the text", self.backup() == NEW, True)
         elif state != "new" or answer == "told":
-            if not (self.is_in_place() and state == "new"):
+            if not ((self.is_in_place() or may_be_new) and state == "new"):
                 check.same("FILE", state, self.before())
 
     def check_place(self, check):
@@ -216,7 +217,9 @@ def failing(check, scene, number, call, error):
     if answers == ["saved"]:
         check.same("FILE, told to be saved,", scene.state(), "new")
     else:
-        scene.check_whole(check, "told")
+        # a rename cannot be undone
+        scene.check_whole(check, "told", call in SYNCS and "exchange" in scene.lacks)
+    check.same("whether a sync or lock that fails is told", call in (*SYNCS, "flock") and answers == ["saved"], False)
     if scene.way == "itself" and scene.state() != scene.before() and answers != ["saved"]:
         check.same("the cause", answers, ["file cut off"])
     # what cannot be removed stays
@@ -261,7 +264,7 @@ class Points:
             self.try_point(f"killed {at}", killed, number, False)
             self.try_point(f"killed after {call} ({number})", killed, number, True)
             self.try_point(f"killed {at}, and saves after it", saved_after_kill, number)
-            for error in errno.ENOSPC, errno.EIO, errno.EPERM:
+            for error in errno.ENOSPC, errno.EIO, errno.EROFS if call in SYNCS else errno.EPERM:
                 self.try_point(f"{errno.errorcode[error]} {at}", failing, number, call, error)
             self.try_point(f"EIO {at}, and saves after it", saved_after_failure, number, call, errno.EIO)
 

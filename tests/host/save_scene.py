@@ -11,7 +11,7 @@ import tempfile
 import time
 
 OTHER = 54322
-LIMIT = 20
+LIMIT = 60  # seconds: only what hangs takes so long
 
 is_old = sys.argv[1:2] == ["--old"]
 tables = sys.argv[2] if is_old else ""

@@ -1,14 +1,15 @@
-"""sessions_faults.py HOST [NAME..]: checks from outside that a running session is kept whatever is done to its files, and that it is
-found again. HOST is an installed bidi-edit, or the host alone, which gets typist.py in place of the program. Exit status 1: a case
+"""sessions_faults.py HOST [NAME..]: checks from outside that a running session is kept whatever is done to FILE, and that it is found
+again. HOST is an installed bidi-edit, or the host alone, which gets typist.py in place of the program. Exit status 1: a case
 failed."""
-import glob, os, re, shutil, signal, subprocess, sys, tempfile, termios, threading, time
+import glob, os, re, shutil, signal, subprocess, sys, termios, threading, time
 HERE = os.path.dirname(os.path.abspath(__file__))
 sys.path.insert(0, HERE)
-from checks import Fault, Report, Skipped, needs, try_case
-from terminals import Run, become_reaper
+import about
+from checks import Fault, Report, Skipped, lasting_folder, needs, try_case
+from terminals import HANG, Run, become_reaper
 
 QUIT = b'\x11'
-SECONDS = 2.5  # in which the host looks after the parts of a session
+SECONDS = 2.5  # in which the host looks after the session
 SHOWN = re.compile(rb'text <|1:1')  # by typist.py, or by the program
 NOTICE = re.compile(rb'\x1b\[24;\d+Hcopy|notice [1-5]')
 
@@ -26,9 +27,9 @@ def installed(host, folder):
     return f'{folder}/bin/bidi-edit'
 
 
-def wait_for(test, seconds=200):
+def wait_for(test):
     """Waits until a test gives something, and returns that."""
-    end = time.monotonic() + seconds
+    end = time.monotonic() + HANG
     while True:
         found = test()
         if found or time.monotonic() > end:
@@ -56,9 +57,10 @@ class Editor:
         return not termios.tcgetattr(self.run.slave)[3] & termios.ICANON and SHOWN.search(self.run.output)
 
     def types(self, keys):
-        """Types, and waits until the screen rests."""
+        """Types, and waits until something is painted and the screen rests."""
+        seen = len(self.run.output)
         self.run.type(keys)
-        self.run.rest(0.3)
+        self.run.waits(lambda: len(self.run.output) > seen)
         seen = None
         while seen != len(self.run.output):
             seen = len(self.run.output)
@@ -67,7 +69,7 @@ class Editor:
 
     def is_told_of_other(self):
         """Waits for the question about another window, and refuses."""
-        if not self.run.pump(200, b'open in another window'):
+        if not self.run.pump(HANG, b'open in another window'):
             raise Fault('not told of another window', self.run.output)
         self.run.rest(1)
         self.run.type(b'\x04')
@@ -78,9 +80,9 @@ class Editor:
         return self.ends()
 
     def ends(self):
-        if not self.run.pump(100):
+        if not self.run.pump(HANG):
             raise Fault('goes on', self.run.output[-300:])
-        self.run.left(10)
+        self.run.left(HANG)
         self.close()
         return self
 
@@ -113,19 +115,12 @@ class Place:
         started = self.start(*words, **more)
         if not wait_for(started.is_editing):
             raise Fault('no text is shown', started.err(), started.run.output[-300:])
-        if not wait_for(lambda: self.parts('path')):
+        if not wait_for(lambda: self.parts('about')):
             raise Fault('no session is complete', started.run.output[-300:])
         return started
 
     def parts(self, name):
-        folders = [f'{self.variables["XDG_STATE_HOME"]}/bidi_edit', *glob.glob(os.path.join(self.top, 'tmp', 'bidi_edit.*'))]
-        return [path for folder in folders for path in glob.glob(f'{folder}/2*/{name}')]
-
-    def part(self, name):
-        found = self.parts(name)
-        if len(found) != 1:
-            raise Fault(f'not one {name}', found)
-        return found[0]
+        return glob.glob(f'{self.variables["XDG_STATE_HOME"]}/bidi_edit/2*/{name}')
 
     def tells(self, *words):
         done = subprocess.run([self.host, *words], cwd=self.files, env={**os.environ, **self.variables}, stdin=subprocess.DEVNULL,
@@ -154,54 +149,6 @@ def recovers(check, place, file, text):
     check.same(f'the text of {os.path.basename(file)}', place.stores(file), text)
 
 
-def cleaned(check, place, *parts, keys=b'd', text='abcdtext\n'):
-    """These parts of a running session are removed; what is typed before and after is restored."""
-    place.put('a')
-    editor = place.edit('a').types(b'abc')
-    for part in parts:
-        os.remove(place.part(part))
-    editor.run.rest(SECONDS)
-    editor.types(keys).hangs_up()
-    check.holds('what is told', 'unsaved text is kept' in editor.err(), editor.err())
-    recovers(check, place, 'a', text)
-
-
-def removed_journal(check, place):
-    cleaned(check, place, 'journal')
-
-
-def removed_journal_and_kill(check, place):
-    """The host is killed a second later; what was typed since counts too."""
-    place.put('a')
-    editor = place.edit('a').types(b'abc')
-    os.remove(place.part('journal'))
-    editor.run.rest(SECONDS)
-    editor.types(b'd').run.rest(SECONDS)
-    os.kill(editor.run.job, signal.SIGKILL)
-    editor.ends()
-    recovers(check, place, 'a', 'abcdtext\n')
-
-
-def removed_text_and_path(check, place):
-    cleaned(check, place, 'text', 'path')
-
-
-def removed_notes(check, place):
-    cleaned(check, place, 'begin', 'versions', 'process', 'file', 'mode')
-
-
-def removed_lock(check, place):
-    """A second start finds that the session lives."""
-    place.put('a')
-    first = place.edit('a').types(b'abc')
-    os.remove(place.part('lock'))
-    place.start('a').is_told_of_other()
-    found = place.tells('--recover')
-    check.holds('the list', '(open now)' in found[1], found)
-    first.hangs_up()
-    recovers(check, place, 'a', 'abctext\n')
-
-
 def foreign_folders(check, place):
     """An old folder of the user's, whose name begins with a digit, is nobody's session."""
     folder = f'{place.top}/state/bidi_edit/2026-taxes'
@@ -216,9 +163,9 @@ def foreign_folders(check, place):
 
 
 def hard_links(check, place):
-    """One name of FILE is in a folder for temporary files: its session is found by both."""
+    """The session of a FILE with two names is found by both."""
     place.put('a')
-    names = f'{place.files}/a', os.path.join(place.top, 'tmp', 'b')
+    names = f'{place.files}/a', f'{place.files}/b'
     os.link(*names)
     for one, other in (names, names[::-1]):
         first = place.edit(one).types(b'abc')
@@ -226,7 +173,7 @@ def hard_links(check, place):
         first.hangs_up()
         recovers(check, place, other, 'abctext\n')
         place.tells('--forget', one)
-        check.same('sessions', place.parts('path'), [])
+        check.same('sessions', place.parts('about'), [])
 
 
 def growing_file(check, place):
@@ -320,7 +267,8 @@ def saved_and_renamed(check, place):
     os.mkdir(f'{place.files}/one')
     place.put('one/a')
     editor = place.edit('one/a').types(b'abc\x13').types(b'd')
-    editor.run.rest(SECONDS)
+    inode = str(os.stat(f'{place.files}/one/a').st_ino)
+    check.holds('the new file is noted', wait_for(lambda: about.facts(os.path.dirname(place.parts('about')[0]))['file'].split()[1] == inode))
     os.rename(f'{place.files}/one', f'{place.files}/two')
     os.kill(editor.run.job, signal.SIGKILL)
     editor.ends()
@@ -356,8 +304,8 @@ def refused_removal(check, place):
     recovers(check, place, 'a', 'abctext\n')
 
 
-CASES = (removed_journal, removed_journal_and_kill, removed_text_and_path, removed_notes, removed_lock, foreign_folders, hard_links, growing_file,
-         full_disk, renamed_folder, renamed_folder_and_kill, saved_and_renamed, gone_folder, refused_removal)
+CASES = (foreign_folders, hard_links, growing_file, full_disk, renamed_folder, renamed_folder_and_kill, saved_and_renamed, gone_folder,
+         refused_removal)
 
 
 def main():
@@ -365,8 +313,7 @@ def main():
     become_reaper()
     for number in (signal.SIGPIPE, signal.SIGXFSZ):
         signal.signal(number, signal.SIG_DFL)
-    # not in a folder for temporary files, whose sessions would be there
-    folder = tempfile.mkdtemp(prefix='sessions.', dir='/var/lib' if os.geteuid() == 0 else os.path.expanduser('~'))
+    folder = lasting_folder('sessions')
     report = Report()
     try:
         host = installed(os.path.abspath(sys.argv[1]), f'{folder}/tree')

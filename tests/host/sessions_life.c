@@ -12,7 +12,7 @@
 
 /* For sessions_forget: counts a session that was removed. */
 static void count_forgotten(void *context, const struct forgotten *forgotten) {
-    if (forgotten->error == 0) ++*(int *)context;
+    if (!forgotten->cause) ++*(int *)context;
 }
 
 /* A session from its beginning to its removal, and what a start finds of it meanwhile. */
@@ -29,13 +29,11 @@ static void check_life(void) {
     look_at(&other, "other");
     make_sessions(&sessions);
     check_kinds(&sessions, &target, "", "life: no session");
-    check(begin(&session, &sessions, &target) == 0, "life: it begins");
+    check(begin(&session, &sessions, &target) == CAUSE_NONE, "life: it begins");
     check_kinds(&sessions, &name, "l", "life: announced");
     fill(&session);
-    check(strcmp(part_text(&session, PART_TEXT), "text") == 0, "life: its text");
-    check(strcmp(part_text(&session, PART_PATH), target.path) == 0, "life: its path");
-    check(strcmp(part_text(&session, PART_MODE), "644\n") == 0, "life: its mode");
-    check(strcmp(part_text(&session, PART_BEGIN), "24 80 auto -\n") == 0, "life: its beginning");
+    check(strcmp(part_text(&session, TEXT_NAME), "text") == 0, "life: its text");
+    check(strstr(part_text(&session, ABOUT_NAME), "\nmode 644\nbegin 24 80 auto -\n"), "life: its facts");
     check_kinds(&sessions, &target, "l", "life: live");
     check_kinds(&sessions, &name, "l", "life: live by another name");
     check_kinds(&sessions, &other, "", "life: another file");
@@ -45,7 +43,8 @@ static void check_life(void) {
     check_kinds(&sessions, &name, "u", "life: ended");
     struct found found;
     sessions_of(&found, &sessions, &target);
-    check(session_put_empty(&found.unfinished, PART_DROPPED) == 0, "life: dropped by a note");
+    check(strcmp(found.unfinished.about.path, target.path) == 0, "life: its path");
+    check(session_mark(&found.unfinished, MARK_DROPPED) == CAUSE_NONE, "life: dropped by a mark");
     found_close(&found);
     check_kinds(&sessions, &target, "d", "life: dropped");
     sessions_forget(&sessions, &target, count_forgotten, &forgotten);
@@ -75,7 +74,7 @@ static void check_new_file(void) {
     struct target target = {.folder = -1};
     make_sessions(&sessions);
     look_at(&target, "new");
-    check(begin(&session, &sessions, &target) == 0, "new FILE: it begins");
+    check(begin(&session, &sessions, &target) == CAUSE_NONE, "new FILE: it begins");
     check(session.source == -1, "new FILE: nothing is opened");
     fill(&session);
     write_bytes(session.journal, "x", 1);
@@ -88,7 +87,7 @@ static void check_new_file(void) {
 static void judge_folder(const char *name, enum folder_state wanted, const char *what) {
     struct sessions sessions;
     setenv("XDG_STATE_HOME", path_in("%s", name), 1);
-    find_folder(&sessions, top);
+    sessions_find(&sessions);
     check(sessions.state == wanted, what);
     sessions_close(&sessions);
     setenv("XDG_STATE_HOME", path_in("state"), 1);
@@ -119,7 +118,7 @@ static void check_exchanged(void) {
     snprintf(away, sizeof away, "%s", path_in("away"));
     if (rename(session.path, away) != 0 || mkdir(session.path, 0700) != 0) abort();
     check(session_mind(&session) == KEEPS_NOWHERE, "exchanged: it is told");
-    session_put(&session, PART_SNAPSHOT, "x", 1);
+    session_put(&session, SNAPSHOT_NAME, "x", 1);
     check(rmdir(session.path) == 0, "exchanged: nothing is in the other folder");
     if (rename(away, session.path) != 0) abort();
     check(mind(&session) == KEEPS, "exchanged: it is back");
@@ -132,7 +131,8 @@ static void check_exchanged(void) {
 /* Only folders of the session's name form are touched. */
 static void check_foreign_names(void) {
     struct sessions sessions;
-    struct session session = {.folder = -1};
+    struct session session;
+    struct target target = {.folder = -1};
     make_sessions(&sessions);
     session_clear(&session);
     run("mkdir -p state/bidi_edit/2026-taxes/sub state/bidi_edit/20200101000000.abcdef state/bidi_edit/.replay.abc123 state/bidi_edit/.dead.20200101000000.abcdef");
@@ -140,7 +140,8 @@ static void check_foreign_names(void) {
     make_old(path_in("state/bidi_edit/2026-taxes"));
     make_old(path_in("state/bidi_edit/20200101000000.abcdef"));
     make_old(path_in("state/bidi_edit/.replay.abc123"));
-    sessions_sweep(&sessions);
+    look_at(&target, "note");
+    check_kinds(&sessions, &target, "", "names: nothing is found");
     check(is_there(path_in("state/bidi_edit/2026-taxes/papers")), "names: a user's folder stays");
     check(!is_there(path_in("state/bidi_edit/20200101000000.abcdef")), "names: a begun session is swept");
     check(!is_there(path_in("state/bidi_edit/.replay.abc123")), "names: a replay's folder is swept");
@@ -157,7 +158,7 @@ static void check_renamed(void) {
         run("mkdir -p folder && printf text >folder/note");
         make_sessions(&sessions);
         look_at(&target, "folder/note");
-        check(begin(&session, &sessions, &target) == 0, "renamed: it begins");
+        check(begin(&session, &sessions, &target) == CAUSE_NONE, "renamed: it begins");
         fill(&session);
         write_bytes(session.journal, "x", 1);
         if (saves) {
@@ -173,32 +174,27 @@ static void check_renamed(void) {
         look_at(&target, "folder/note");
         check_kinds(&sessions, &target, "u", "renamed: it is found by the old path");
         run("mkdir folder && printf other >folder/note");
-        check_kinds(&sessions, &moved, "", "renamed: another file has the name by now");
+        check_kinds(&sessions, &moved, "u", "renamed: another file has the name by now");
+        check_kinds(&sessions, &target, "u", "renamed: that file's starts tell too");
         leave(&session, &sessions);
     }
 }
 
-/* A hard link in a folder of temporary files: the session is found by both names, in its one folder. */
+/* A hard link: the session is found by both names. */
 static void check_links(void) {
-    struct sessions sessions, others;
+    struct sessions sessions;
     struct session session;
     struct target target = {.folder = -1}, other = {.folder = -1};
-    run("mkdir -p tmp lasting && printf text >tmp/note && ln tmp/note lasting/note");
-    setenv("TMPDIR", path_in("tmp"), 1);
-    find_folder(&sessions, path_in("tmp"));
-    check(sessions_make(&sessions), "links: the folder of one name");
-    check(strstr(sessions.path, path_in("tmp/bidi_edit.")) != NULL || strstr(sessions.path, "state") != NULL, "links: where it is");
-    look_at(&target, "tmp/note");
-    check(begin(&session, &sessions, &target) == 0, "links: it begins");
+    run("mkdir one two && printf text >one/note && ln one/note two/note");
+    make_sessions(&sessions);
+    look_at(&target, "one/note");
+    check(begin(&session, &sessions, &target) == CAUSE_NONE, "links: it begins");
     fill(&session);
     write_bytes(session.journal, "x", 1);
-    find_folder(&others, path_in("lasting"));
-    look_at(&other, "lasting/note");
-    check_kinds(&others, &other, "l", "links: live by the other name");
+    look_at(&other, "two/note");
+    check_kinds(&sessions, &other, "l", "links: live by the other name");
     session_close(&session);
-    check_kinds(&others, &other, "u", "links: unfinished by the other name");
-    sessions_close(&others);
-    unsetenv("TMPDIR");
+    check_kinds(&sessions, &other, "u", "links: unfinished by the other name");
     leave(&session, &sessions);
 }
 
@@ -223,32 +219,28 @@ static bool is_live_for_other(const struct sessions *sessions, const struct targ
     return strcmp(kinds(sessions, target), "l") == 0;
 }
 
-/* A lock that was removed is made again, and the session counts as running all the time. */
+/* The lock of a session's folder; and that of the file `lock`, which an editor of version 0.4.0 takes. */
 static void check_lock(void) {
     struct sessions sessions;
     struct session session;
     struct target target = {.folder = -1};
-    begin_filled(&session, &sessions, &target, "x");
-    unlinkat(session.folder, "lock", 0);
-    check(is_live_for_other(&sessions, &target), "lock: removed, and the session lives");
-    mind(&session);
-    check(session_has(&session, PART_LOCK), "lock: made again");
-    int lock = openat(session.folder, "lock", O_RDWR | O_CLOEXEC);
-    check(flock(lock, LOCK_EX | LOCK_NB) != 0, "lock: made again and locked, for editors of before");
-    close(lock);
     struct found found;
-    sessions_of(&found, &sessions, &target);
-    check(!session_remove_unless_locked(&found.live), "lock: no other start removes it");
-    found_close(&found);
-    leave(&session, &sessions);
-    /* an editor of before locks the file alone */
     begin_filled(&session, &sessions, &target, "x");
-    lock = openat(session.folder, "lock", O_RDWR | O_CLOEXEC);
+    check(is_live_for_other(&sessions, &target), "lock: the session lives");
+    sessions_of(&found, &sessions, &target);
+    session_remove_unless_locked(&found.live);
+    check(is_there(session.path), "lock: no other start removes it");
+    check(session_lock(&found.live) == LOCK_HELD, "lock: nor takes it");
+    found_close(&found);
     session_close(&session);
-    check(flock(lock, LOCK_EX | LOCK_NB) == 0, "lock: free once the session is closed");
+    run("cd state/bidi_edit/2*; rm about; pwd >path; echo 1 \"$(cat /proc/sys/kernel/hostname)\" - >process; : >lock");
+    run("printf %s \"$PWD\"/note >\"$(echo state/bidi_edit/2*)/path\"");
+    int lock = open(path_in("lock"), O_RDWR | O_CREAT | O_CLOEXEC, 0600);
+    run("ln -f lock \"$(echo state/bidi_edit/2*)/lock\"");
+    check(flock(lock, LOCK_EX | LOCK_NB) == 0, "lock: taken as by version 0.4.0");
     check(is_live_for_other(&sessions, &target), "lock: by an editor of before");
     sessions_of(&found, &sessions, &target);
-    check(session_lock(&found.live, PART_PATH) == LOCK_HELD, "lock: nobody takes it from an editor of before");
+    check(session_lock(&found.live) == LOCK_HELD, "lock: nobody takes it from an editor of before");
     found_close(&found);
     close(lock);
     check_kinds(&sessions, &target, "u", "lock: that one has ended");

@@ -1,5 +1,5 @@
-/* Checks of a session's parts on a real disk: FILE's text as it is copied, also while it changes, parts that a cleaner of temporary
- * folders removes, and disks without room. sessions_life.c runs them. */
+/* Checks of a session's files on a real disk: FILE's text as it is copied, also while it changes, files that something removes or changes,
+ * and disks without room. sessions_life.c runs them. */
 #include <fcntl.h>
 #include <poll.h>
 #include <sched.h>
@@ -34,17 +34,16 @@ static void check_growing(void) {
             }
         }
         poll(NULL, 0, 20);
-        check(begin(&session, &sessions, &target) == 0, "growing: it begins");
+        check(begin(&session, &sessions, &target) == CAUSE_NONE, "growing: it begins");
         struct stat opened, kept;
         int source = dup(session.source);
         fstat(source, &opened);
-        session_fill(&session);
         check(mind(&session) == KEEPS, "growing: it is kept");
         kill(writer, SIGKILL);
         waitpid(writer, NULL, 0);
         fstat(source, &kept);
         close(source);
-        int text = session_open(&session, PART_TEXT);
+        int text = session_open(&session, TEXT_NAME);
         struct stat copied;
         check(opened.st_size == kept.st_size && fstat(text, &copied) == 0 && copied.st_size == kept.st_size, "growing: the copy is what was opened");
         close(text);
@@ -64,14 +63,13 @@ static void check_large(void) {
         make_old(path_in("note"));
         make_sessions(&sessions);
         look_at(&target, "note");
-        check(begin(&session, &sessions, &target) == 0, "large: it begins");
-        bool is_shared = session.has_text;
+        check(begin(&session, &sessions, &target) == CAUSE_NONE, "large: it begins");
+        bool is_shared = session.about.has_text;
         if (is_changed) write_text(path_in("note"), "other");
-        session_fill(&session);
         check(mind(&session) == (is_changed && !is_shared ? KEEPS_NOTHING : KEEPS), is_changed ? "large: changed" : "large: copied");
         struct stat copied;
         char path[PATH_MAX];
-        session_path_of(&session, PART_TEXT, path);
+        session_path_of(&session, TEXT_NAME, path);
         check((is_changed && !is_shared) || (stat(path, &copied) == 0 && copied.st_size == sizeof many), "large: its copy");
         leave(&session, &sessions);
     }
@@ -88,97 +86,99 @@ static void check_replaced(void) {
     make_old(path_in("note"));
     make_sessions(&sessions);
     look_at(&target, "note");
-    check(begin(&session, &sessions, &target) == 0, "replaced: it begins");
+    check(begin(&session, &sessions, &target) == CAUSE_NONE, "replaced: it begins");
     run("printf saved >draft && mv draft note");
-    session_fill(&session);
     check(mind(&session) == KEEPS, "replaced: it is kept");
-    check(strncmp(part_text(&session, PART_TEXT), "cccc", 4) == 0, "replaced: the old text");
+    check(strncmp(part_text(&session, TEXT_NAME), "cccc", 4) == 0, "replaced: the old text");
     leave(&session, &sessions);
 }
 
-/* The copy loses its name before the session is filled, one that is complete or one that waits. */
-static void check_cleaned_early(void) {
-    static char many[3 << 20];
-    memset(many, 'd', sizeof many);
-    for (int is_large = 0; is_large < 2; is_large++) {
+/* Something removes a file of a running session: that is told, and the file is not made again. What is left stays. */
+static void check_removed(void) {
+    static const char *const names[] = {TEXT_NAME, JOURNAL_NAME, ABOUT_NAME};
+    for (size_t at = 0; at < sizeof names / sizeof *names; at++) {
         struct sessions sessions;
         struct session session;
         struct target target = {.folder = -1};
-        struct stat copied;
-        off_t size = is_large ? (off_t)sizeof many : 100;
-        write_file(path_in("note"), many, (size_t)size);
-        make_old(path_in("note"));
-        make_sessions(&sessions);
-        look_at(&target, "note");
-        check(begin(&session, &sessions, &target) == 0, "cleaned early: it begins");
-        unlinkat(session.folder, "text", 0);
-        session_mind(&session);
-        check(mind(&session) == KEEPS, "cleaned early: kept");
-        check(fstatat(session.folder, "text", &copied, 0) == 0 && copied.st_size == size, "cleaned early: its text");
-        unlinkat(session.folder, "text", 0);
-        check(session_settle(&session, 2000), "cleaned early: kept at the end");
-        check(fstatat(session.folder, "text", &copied, 0) == 0 && copied.st_size == size, "cleaned early: its text at the end");
+        begin_filled(&session, &sessions, &target, "ab");
+        check(mind(&session) == KEEPS, names[at]);
+        unlinkat(session.folder, names[at], 0);
+        check(mind(&session) == KEEPS_NOWHERE && mind(&session) == KEEPS_NOWHERE, names[at]);
+        check(!session_settle(&session, false) && !session_has(&session, names[at]), names[at]);
         leave(&session, &sessions);
     }
 }
 
-/* A cleaner removes parts of a running session. Each is there again, and the session is recovered. */
-static void check_cleaned(void) {
+/* What of an ended session has changed. */
+static void check_damage(void) {
     static const struct {
-        const char *which;
-        enum part parts[3];
-        size_t count;
+        const char *command, *damage;
     } cases[] = {
-        {"journal", {PART_JOURNAL}, 1},
-        {"text and path", {PART_TEXT, PART_PATH}, 2},
-        {"path", {PART_PATH}, 1},
-        {"begin", {PART_BEGIN}, 1},
-        {"versions", {PART_VERSIONS}, 1},
-        {"process", {PART_PROCESS}, 1},
-        {"lock", {PART_LOCK}, 1},
-        {"journal, text and lock", {PART_JOURNAL, PART_TEXT, PART_LOCK}, 3},
+        {"true", NULL},
+        {"printf texT >text", "its text has changed"},
+        {"rm text", "its text has changed"},
+        {"printf aB >journal", "its keys have changed"},
+        {"printf abc >journal", NULL},
+        {"printf a >journal", "keys are missing"},
+        {": >journal", "keys are missing"},
+        {"rm journal", "keys are missing"},
+        {"sed -i s/80/81/ about", "its file about has changed"},
+        {"sed -i '$d' about", "its file about has changed"},
     };
     for (size_t at = 0; at < sizeof cases / sizeof *cases; at++) {
         struct sessions sessions;
         struct session session;
         struct target target = {.folder = -1};
+        struct found found;
+        char line[256];
         begin_filled(&session, &sessions, &target, "ab");
-        for (size_t part = 0; part < cases[at].count; part++) {
-            check(unlinkat(session.folder, part_name(cases[at].parts[part]), 0) == 0, cases[at].which);
-        }
-        check_kinds(&sessions, &target, "l", cases[at].which);
-        check(mind(&session) == KEEPS, cases[at].which);
-        write_bytes(session.journal, "c", 1);
-        check(session_settle(&session, 2000), cases[at].which);
-        check(strcmp(part_text(&session, PART_JOURNAL), "abc") == 0, cases[at].which);
-        check(strcmp(part_text(&session, PART_TEXT), "text") == 0, cases[at].which);
-        check(strcmp(part_text(&session, PART_BEGIN), "24 80 auto -\n") == 0, cases[at].which);
-        check_kinds(&sessions, &target, "l", cases[at].which);
+        check(session_settle(&session, at % 2), "damage: settled");
         session_close(&session);
-        check_kinds(&sessions, &target, "u", cases[at].which);
+        snprintf(line, sizeof line, "cd state/bidi_edit/2* && %s", cases[at].command);
+        run(line);
+        sessions_of(&found, &sessions, &target);
+        const char *damage = session_is_none(&found.unfinished) ? "none is found" : session_damage(&found.unfinished);
+        bool is_right = damage && cases[at].damage ? strcmp(damage, cases[at].damage) == 0 : damage == cases[at].damage;
+        if (!is_right) printf("damage: %s\n", damage ? damage : "none");
+        check(is_right, cases[at].command);
+        found_close(&found);
         leave(&session, &sessions);
     }
 }
 
-/* The journal's file is gone: what the program empties and appends later is in the new file too, once. */
-static void check_mirror(void) {
+/* A journal that was emptied when all was saved is no damage, and the session has nothing; one that lost later keys is damaged. */
+static void check_saved(void) {
+    for (int later = 0; later < 2; later++) {
+        struct sessions sessions;
+        struct session session;
+        struct target target = {.folder = -1};
+        begin_filled(&session, &sessions, &target, "ab");
+        session_note_saved(&session);
+        if (later) write_bytes(session.journal, "c", 1);
+        check(mind(&session) == KEEPS, "saved: kept");
+        session_close(&session);
+        run(": >\"$(echo state/bidi_edit/2*)/journal\"");
+        check_kinds(&sessions, &target, later ? "u" : "", later ? "saved: later keys are missing" : "saved: nothing is left");
+        leave(&session, &sessions);
+    }
+}
+
+/* The sum of the journal goes on with it, and begins anew where the program empties it. */
+static void check_journal_sums(void) {
+    static const char *const keys[] = {"", "a", "bc", "d"};
     struct sessions sessions;
     struct session session;
     struct target target = {.folder = -1};
-    begin_filled(&session, &sessions, &target, "abc");
-    unlinkat(session.folder, "journal", 0);
-    mind(&session);
-    write_bytes(session.journal, "de", 2);
-    mind(&session);
-    mind(&session);
-    check(strcmp(part_text(&session, PART_JOURNAL), "abcde") == 0, "mirror: what was appended");
+    struct sum sum;
+    begin_filled(&session, &sessions, &target, "");
+    for (size_t at = 0; at < sizeof keys / sizeof *keys; at++) {
+        write_bytes(session.journal, keys[at], strlen(keys[at]));
+        check(mind(&session) == KEEPS, "sums: kept");
+        check(sum_file(session.journal, &sum) && is_same_sum(&sum, &session.about.journal), keys[at]);
+    }
     if (ftruncate(session.journal, 0) != 0) abort();
     write_bytes(session.journal, "x", 1);
-    mind(&session);
-    check(strcmp(part_text(&session, PART_JOURNAL), "x") == 0, "mirror: what was emptied");
-    unlinkat(session.folder, "journal", 0);
-    mind(&session);
-    check(strcmp(part_text(&session, PART_JOURNAL), "x") == 0, "mirror: removed again");
+    check(mind(&session) == KEEPS && session.about.journal.size == 1 && !session_damage(&session), "sums: emptied");
     leave(&session, &sessions);
 }
 
@@ -204,25 +204,21 @@ static void wait_for_room(void) {
     make_sessions(&sessions);
     fill_small();
     look_at(&target, "note");
-    check(begin(&session, &sessions, &target) == 0 && session.is_waiting, "room: the text waits");
+    check(begin(&session, &sessions, &target) == CAUSE_NONE && session.cause == CAUSE_NO_SPACE, "room: the text waits");
     check(pread(session.source, text, sizeof text, 0) == 4 && strcmp(text, "text") == 0, "room: what is opened");
-    check(session_mind(&session) == KEEPS_NOT_YET, "room: it is told");
-    check(!session_has(&session, PART_PATH), "room: nobody finds a part");
-    check(!session_settle(&session, 1000), "room: nor at the end");
+    check(mind(&session) == KEEPS_NOT_YET && session.cause == CAUSE_NO_SPACE, "room: it is told");
+    check(!session_settle(&session, true), "room: it cannot be recovered");
+    session.is_hasty = false;
     unlink(path_in("small/other"));
-    check(is_kept_again(&session), "room: kept again");
-    check(strcmp(part_text(&session, PART_TEXT), "text") == 0 && session.source == -1, "room: its text, and FILE is not held");
-    write_bytes(session.journal, "abc", 3);
+    check(mind(&session) == KEEPS, "room: kept again");
+    check(strcmp(part_text(&session, TEXT_NAME), "text") == 0 && session.source == -1, "room: its text, and FILE is not held");
     fill_small();
-    unlinkat(session.folder, "journal", 0);
-    unlinkat(session.folder, "path", 0);
-    /* what the journal took is free only once the program closes it */
-    fill_small();
-    check(mind(&session) == KEEPS_NOT_YET, "room: a removed journal has none");
-    check(!session_settle(&session, 1000), "room: that is told at the end");
+    session.about.marks = MARK_CUT;
+    session.is_about_due = true;
+    check(mind(&session) == KEEPS && strstr(part_text(&session, ABOUT_NAME), "marks cut\n"), "room: its facts need none");
+    check(session_settle(&session, true) && !session_damage(&session), "room: it can be recovered");
     unlink(path_in("small/other"));
-    check(is_kept_again(&session) && strcmp(part_text(&session, PART_JOURNAL), "abc") == 0, "room: the journal is there again");
-    check(session_remove(&session) == 0, "room: removed");
+    check(session_remove(&session) == CAUSE_NONE, "room: removed");
     session_close(&session);
     sessions_close(&sessions);
     umount(path_in("small"));
@@ -239,12 +235,11 @@ static void use_few_files(void) {
         if (mount("none", path_in("small"), "tmpfs", 0, options) != 0) abort();
         write_text(path_in("note"), "text");
         look_at(&target, "note");
-        find_folder(&sessions, top);
-        if (sessions_make(&sessions) && begin(&session, &sessions, &target) == 0) {
-            session_fill(&session);
+        sessions_find(&sessions);
+        if (sessions_make(&sessions) && begin(&session, &sessions, &target) == CAUSE_NONE) {
             enum keeping keeping = mind(&session);
-            check(keeping == KEEPS || (keeping == KEEPS_NOT_YET && !session_has(&session, PART_PATH)), "few files: kept, or told");
-            check(session_remove(&session) == 0, "few files: removed");
+            check(keeping == KEEPS || (keeping == KEEPS_NOT_YET && session.cause == CAUSE_NO_SPACE), "few files: kept, or told");
+            check(session_remove(&session) == CAUSE_NONE, "few files: removed");
             session_close(&session);
         }
         run("test -z \"$(find small -mindepth 2)\"");
@@ -274,8 +269,9 @@ void check_parts(void) {
     check_growing();
     check_large();
     check_replaced();
-    check_cleaned_early();
-    check_cleaned();
-    check_mirror();
+    check_removed();
+    check_damage();
+    check_journal_sums();
+    check_saved();
     check_room();
 }

@@ -1,9 +1,8 @@
-/* Lets each call of the system fail in turn while a session begins, is filled, loses parts, goes on, and is removed. What is said has
+/* Lets each call of the system fail in turn while a session begins, is filled, goes on, and is removed. What is said has
  * to be so: a session that counts as kept is found whole by a later start; one that is removed is not found; one that is not removed is
  * whole; and no text is ever another one. Linked with --wrap for each of these calls. Prints `N passed, M failed`. */
 #include <errno.h>
 #include <fcntl.h>
-#include <poll.h>
 #include <stdarg.h>
 #include <stdio.h>
 #include <stdlib.h>
@@ -13,9 +12,10 @@
 #include <sys/wait.h>
 #include <unistd.h>
 
-#include "../../host/parts.h"
+#include "../../host/session.h"
+#include "../../host/util.h"
 
-enum { TEXT_SIZE = 4, LIMIT_MS = 2000 };
+enum { TEXT_SIZE = 4 };
 
 /* The calls so far, of this process and its children; the one that fails, and how; whether calls are counted. */
 static struct counter {
@@ -101,46 +101,39 @@ static void type_keys(const struct session *session, const char *keys) {
     counter->is_on = true;
 }
 
-/* Removes a file of the session's folder, as another program could; without a fault. */
-static void remove_part(const struct session *session, enum part part) {
-    counter->is_on = false;
-    unlinkat(session->folder, part_name(part), 0);
-    counter->is_on = true;
-}
-
-/* Minds the session until its parts are written, for two seconds at most. */
+/* Minds the session until nothing is due. */
 static enum keeping mind(struct session *session) {
     enum keeping keeping = session_mind(session);
-    for (int waited = 0; keeping == KEEPS_SOON && waited < LIMIT_MS; waited += 5) {
-        poll(NULL, 0, 5);
-        keeping = session_mind(session);
-    }
+    for (int tries = 0; tries < 10; tries++) keeping = session_mind(session);
     return keeping;
 }
 
-/* Whether a part of the session has this text. */
-static bool has_text(const struct session *session, enum part part, const char *text) {
-    char *found = session_note(session, part);
-    bool is_same = found && strcmp(found, text) == 0;
-    free(found);
-    return is_same;
+/* Whether a file of the session has this text, or begins with it. */
+static bool has_text(const struct session *session, const char *name, const char *text) {
+    const char *found = read_short(session->folder, name, NULL);
+    return found && strncmp(found, text, strlen(text)) == 0;
 }
 
 /* FILE `note` in the top folder, and the place of its sessions: without a fault, since it would be another place. */
 static void find_file(struct sessions *sessions, struct target *target, char path[PATH_MAX]) {
     int folder = open(top, O_PATH | O_CLOEXEC);
     snprintf(path, PATH_MAX, "%.*s/note", PATH_MAX - 8, top);
-    sessions_find(sessions, folder);
+    sessions_find(sessions);
     target_look(target, path, folder, "note");
 }
 
 /* Begins a session of FILE as the host does. */
 static bool begin(struct session *session, const struct sessions *sessions, const struct target *target) {
     int file = open(target->path, O_RDONLY | O_CLOEXEC);
-    struct opening opening = {.target = target, .file = file, .mode = 0644, .begin = {.rows = 24, .cols = 80, .direction = "auto"}, .is_joined = true, .versions = "bidi-edit 1\n"};
-    int error = session_begin(session, sessions, &opening);
+    static struct about about;
+    about_clear(&about);
+    put_path(about.path, "%s", target->path);
+    about.has_begin = about.has_process = true;
+    about.begin = (struct begin){.rows = 24, .cols = 80, .direction = "auto"};
+    about.process = *this_process();
+    enum cause cause = session_begin(session, sessions, &about, file);
     close(file);
-    return error == 0;
+    return cause == CAUSE_NONE;
 }
 
 /* What a later start finds; without a fault. */
@@ -166,15 +159,10 @@ static void live_and_end(void) {
         counter->is_on = false;
         require(session.source >= 0 && pread(session.source, opened, sizeof opened, 0) == TEXT_SIZE && strcmp(opened, "text") == 0, "what is opened");
         type_keys(&session, "ab");
-        session_fill(&session);
-        mind(&session);
-        remove_part(&session, PART_JOURNAL);
-        remove_part(&session, PART_PATH);
-        remove_part(&session, PART_TEXT);
         mind(&session);
         type_keys(&session, "c");
         enum keeping keeping = mind(&session);
-        is_kept = session_settle(&session, LIMIT_MS);
+        is_kept = session_settle(&session, true);
         require(is_kept || keeping != KEEPS || counter->count >= counter->fails_at, "a session that is kept is so at the end");
     }
     session_close(&session);
@@ -182,10 +170,11 @@ static void live_and_end(void) {
     find_later(&found, &sessions, &target, path);
     if (is_kept) {
         require(!session_is_none(&found.unfinished), "a kept session is found");
-        require(has_text(&found.unfinished, PART_JOURNAL, "abc"), "the keys of a kept session");
-        require(has_text(&found.unfinished, PART_BEGIN, "24 80 auto -\n"), "the beginning of a kept session");
+        require(has_text(&found.unfinished, JOURNAL_NAME, "abc"), "the keys of a kept session");
+        require(found.unfinished.about.has_begin && !session_damage(&found.unfinished), "the facts of a kept session");
     }
-    if (!session_is_none(&found.unfinished)) require(has_text(&found.unfinished, PART_TEXT, "text"), "the text of a session that is found");
+    if (!session_is_none(&found.unfinished) && found.unfinished.about.has_text)
+        require(has_text(&found.unfinished, TEXT_NAME, "text"), "the text of a session that is found");
     found_close(&found);
     sessions_close(&sessions);
 }
@@ -204,21 +193,20 @@ static void go_on_and_remove(void) {
     session_move(&session, &found.unfinished);
     found_close(&found);
     bool is_removed = false;
-    if (!session_is_none(&session) && session_lock(&session, PART_PATH) == LOCK_TAKEN) {
+    if (!session_is_none(&session) && session_lock(&session) == LOCK_TAKEN) {
         session_go_on(&session, NULL, true);
         session_resume(&session, 24, 80);
         mind(&session);
-        is_removed = session_remove(&session) == 0;
+        is_removed = session_remove(&session) == CAUSE_NONE;
     }
     session_close(&session);
     sessions_close(&sessions);
     find_later(&found, &sessions, &target, path);
     require(session_is_none(&found.unfinished) == is_removed, "a session is removed, or found");
     if (!is_removed) {
-        char *journal = session_note(&found.unfinished, PART_JOURNAL);
-        require(journal && strncmp(journal, "abc", 3) == 0, "the keys of a session that is not removed");
-        require(has_text(&found.unfinished, PART_TEXT, "text"), "the text of a session that is not removed");
-        free(journal);
+        require(has_text(&found.unfinished, JOURNAL_NAME, "abc"), "the keys of a session that is not removed");
+        require(has_text(&found.unfinished, TEXT_NAME, "text"), "the text of a session that is not removed");
+        require(!session_damage(&found.unfinished), "the sums of a session that is not removed");
     }
     found_close(&found);
     sessions_close(&sessions);
@@ -280,7 +268,6 @@ int main(void) {
     char state[PATH_MAX + 8];
     snprintf(state, sizeof state, "%s/state", top);
     setenv("XDG_STATE_HOME", state, 1);
-    unsetenv("TMPDIR");
     for (size_t at = 0; at < sizeof errors / sizeof *errors; at++) {
         fault = "a session's life";
         try_all(live_and_end, leave_nothing, errors[at], counts);

@@ -118,14 +118,8 @@ void clear_top(void) {
 
 /* ---- sessions */
 
-void find_folder(struct sessions *sessions, const char *folder_of_file) {
-    int folder = open(folder_of_file, O_PATH | O_CLOEXEC);
-    sessions_find(sessions, folder);
-    close(folder);
-}
-
 void make_sessions(struct sessions *sessions) {
-    find_folder(sessions, top);
+    sessions_find(sessions);
     check(sessions_make(sessions), "the folder of sessions is made");
 }
 
@@ -141,39 +135,30 @@ void look_at(struct target *target, const char *name) {
     target_look(target, path, open(folder, O_PATH | O_CLOEXEC), strrchr(path, '/') + 1);
 }
 
-int begin(struct session *session, const struct sessions *sessions, const struct target *target) {
+enum cause begin(struct session *session, const struct sessions *sessions, const struct target *target) {
+    static struct about about;
     int file = open(target->path, O_RDONLY | O_CLOEXEC);
-    struct opening opening = {.target = target,
-                              .file = file,
-                              .mode = 0644,
-                              .begin = {.rows = 24, .cols = 80, .direction = "auto"},
-                              .is_joined = true,
-                              .versions = "bidi-edit 1\n"};
-    int error = session_begin(session, sessions, &opening);
+    about_clear(&about);
+    put_path(about.path, "%s", target->path);
+    about.has_id = target->is_there;
+    about.id = target->id;
+    about.mode = 0644;
+    about.has_begin = about.has_process = true;
+    about.begin = (struct begin){.rows = 24, .cols = 80, .direction = "auto"};
+    about.process = *this_process();
+    snprintf(about.versions, sizeof about.versions, "bidi-edit 1");
+    enum cause cause = session_begin(session, sessions, &about, file);
     if (file >= 0) close(file);
-    return error;
+    return cause;
 }
 
 enum keeping mind(struct session *session) {
     enum keeping keeping = session_mind(session);
-    for (int tries = 0; (keeping == KEEPS_SOON || session->child > 0) && tries < 200; tries++) {
-        poll(NULL, 0, 10);
-        keeping = session_mind(session);
-    }
+    for (int tries = 0; session_is_due(session) && tries < 10; tries++) keeping = session_mind(session);
     return keeping;
 }
 
-bool is_kept_again(struct session *session) {
-    enum keeping keeping = session_mind(session);
-    for (int tries = 0; keeping != KEEPS && tries < 200; tries++) {
-        poll(NULL, 0, 10);
-        keeping = session_mind(session);
-    }
-    return keeping == KEEPS;
-}
-
 void fill(struct session *session) {
-    session_fill(session);
     check(mind(session) == KEEPS, "the session is filled");
 }
 
@@ -181,14 +166,14 @@ void begin_filled(struct session *session, struct sessions *sessions, struct tar
     write_text(path_in("note"), "text");
     make_sessions(sessions);
     look_at(target, "note");
-    check(begin(session, sessions, target) == 0, "the session begins");
+    check(begin(session, sessions, target) == CAUSE_NONE, "the session begins");
     fill(session);
     check(write_bytes(session->journal, keys, strlen(keys)) == 0, "keys are journaled");
 }
 
-const char *part_text(const struct session *session, enum part part) {
+const char *part_text(const struct session *session, const char *name) {
     char path[PATH_MAX];
-    session_path_of(session, part, path);
+    session_path_of(session, name, path);
     return read_text(path);
 }
 
@@ -209,7 +194,6 @@ void check_kinds(const struct sessions *sessions, const struct target *target, c
 }
 
 void leave(struct session *session, struct sessions *sessions) {
-    end_child(session);
     session_close(session);
     sessions_close(sessions);
     clear_top();

@@ -3,7 +3,10 @@
 #ifndef SESSIONS_SCENE_H
 #define SESSIONS_SCENE_H
 
-#include "../../host/parts.h"
+#include "../../host/file.h"
+#include "../../host/save.h"
+#include "../../host/session.h"
+#include "../../host/util.h"
 
 /* The path of the new folder, once begin_scene has made it. */
 extern char top[PATH_MAX];
@@ -39,24 +42,20 @@ void clear_top(void);
 
 /* ---- sessions */
 
-/* Finds the folder of sessions for a file in this folder. */
-void find_folder(struct sessions *sessions, const char *folder_of_file);
-/* Finds the folder of sessions for the top folder, and makes it. */
+/* Finds the folder of sessions, and makes it. */
 void make_sessions(struct sessions *sessions);
 /* Makes a file in the top folder the target. */
 void look_at(struct target *target, const char *name);
-/* Begins a session of FILE as the host does. Returns 0 or an errno. */
-int begin(struct session *session, const struct sessions *sessions, const struct target *target);
-/* Minds the session until it is kept, or for some seconds. */
+/* Begins a session of FILE as the host does. */
+enum cause begin(struct session *session, const struct sessions *sessions, const struct target *target);
+/* Minds the session until nothing is due. */
 enum keeping mind(struct session *session);
-/* Whether a session that was not kept is kept within two seconds. */
-bool is_kept_again(struct session *session);
 /* Fills the session, which has to be kept then. */
 void fill(struct session *session);
 /* Begins and fills a session of the new FILE `note`, with these keys. */
 void begin_filled(struct session *session, struct sessions *sessions, struct target *target, const char *keys);
-/* The text of a part; the next call, or one of read_text, overwrites it. */
-const char *part_text(const struct session *session, enum part part);
+/* The text of a file of the session; the next call, or one of read_text, overwrites it. */
+const char *part_text(const struct session *session, const char *name);
 /* The letters of the kinds of sessions that FILE has: live, elsewhere, unfinished, dropped. The next call overwrites them. */
 const char *kinds(const struct sessions *sessions, const struct target *target);
 /* Checks which kinds of sessions a start finds for FILE, by the letters of `kinds`. */
@@ -66,7 +65,7 @@ void leave(struct session *session, struct sessions *sessions);
 
 /* ---- the checks of the other files */
 
-/* A session's parts: what is copied, and what is made again where a cleaner of temporary folders removes it. */
+/* A session's files: what is copied, what is told where something removes them, and what has changed. */
 void check_parts(void);
 /* What follows an interrupted session or save: sessions that go on, removals, repairs of FILE. */
 void check_repairs(void);

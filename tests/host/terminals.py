@@ -1,6 +1,8 @@
 """Runs a command on a terminal of its own, as a shell does: in a job of its own, in the foreground of a session."""
 import ctypes, fcntl, os, pty, select, signal, struct, termios, time
 
+HANG = 60  # seconds of a wait for something that comes: only what hangs takes so long, even on a busy machine
+
 
 def become_reaper():
     """Orphans of the tests become children of this process, so that their end is seen."""
@@ -149,6 +151,15 @@ class Run:
             if time.perf_counter() > end:
                 return False
             self.rest(0.02)
+        return True
+
+    def waits(self, is_so):
+        """Reads until this is so. Returns whether it came."""
+        end = time.perf_counter() + HANG
+        while not is_so():
+            if time.perf_counter() > end:
+                return False
+            self.rest(0.01)
         return True
 
     def rest(self, seconds):

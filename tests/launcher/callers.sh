@@ -25,12 +25,12 @@ check_git() {
     has_caller git || return 0
     git init -q repository
     start_caller 'cd repository && git -c user.name=a -c user.email=a@b commit -q --allow-empty'
-    wait_for 50 shows 'Please enter the commit message'
+    wait_for shows 'Please enter the commit message'
     type_keys -l 'שלום message'
     type_keys C-s
-    wait_for 30 shows 'saved'
+    wait_for shows 'saved'
     type_keys C-q
-    finish 'caller, git' 0 50
+    finish 'caller, git' 0
     same 'caller, git: the commit' "$(git -C repository log --format=%s)" 'שלום message'
     rm -rf repository
 }
@@ -43,14 +43,14 @@ check_crontab() {
         return
     fi
     start_caller 'crontab -e'
-    wait_for 50 is_editing
+    wait_for is_editing
     # crontab detects a change by a time in seconds
     sleep 1.1
     type_keys -l '# שלום'
     type_keys Enter C-s
-    wait_for 30 shows 'saved'
+    wait_for shows 'saved'
     type_keys C-q
-    wait_for 50 has_ended
+    wait_for has_ended
     same 'caller, crontab: its status' "$(cat "$folder/status")" 0
     same 'caller, crontab: the table' "$(crontab -l 2>/dev/null | head -n 1)" '# שלום'
     terminal kill-session -t person
@@ -64,12 +64,12 @@ check_visudo() {
     chmod 440 sudoers
     # shellcheck disable=SC2016
     start_caller 'PATH=$PATH:/usr/sbin; visudo -f sudoers'
-    wait_for 50 shows 'root ALL'
+    wait_for shows 'root ALL'
     type_keys -l '# a comment'
     type_keys Enter C-s
-    wait_for 30 shows 'saved'
+    wait_for shows 'saved'
     type_keys C-q
-    wait_for 50 has_ended
+    wait_for has_ended
     same 'caller, visudo: its status' "$(cat "$folder/status")" 0
     same 'caller, visudo: the file' "$(paste -s -d '|' sudoers)" '# a comment|root ALL=(ALL:ALL) ALL'
     terminal kill-session -t person
@@ -81,16 +81,16 @@ check_less() {
     has_caller less || return 0
     printf 'one\ntwo\n' >page
     start_caller 'less page'
-    wait_for 50 shows END
+    wait_for shows END
     type_keys v
-    wait_for 50 shows '- 2:1'
+    wait_for shows '- 2:1'
     type_keys -l new
     type_keys C-s
-    wait_for 30 shows saved
+    wait_for shows saved
     type_keys C-q
-    wait_for 50 shows_no saved
+    wait_for shows_no saved
     type_keys q
-    wait_for 50 has_ended
+    wait_for has_ended
     terminal kill-session -t person
     same 'caller, less: the file' "$(paste -s -d '|' page)" 'one|newtwo'
     rm -f page

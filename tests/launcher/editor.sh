@@ -14,9 +14,11 @@ alone() { # ROWS COLS FILE KEYS
         --mirroring "$top/data/BidiMirroring.txt" --joining "$top/data/ArabicShaping.txt" --characters "$top/data/UnicodeData.txt" \
         "$folder/files/alone" >"$folder/bytes" 2>/dev/null
     rm -f "$folder/files/alone"
-    printf 'stty raw -echo; cat "%s/bytes"; exec sleep 600\n' "$folder" >"$folder/show"
+    rm -f "$folder/shown"
+    printf 'stty raw -echo; cat "%s/bytes"; : >"%s/shown"; exec sleep 600\n' "$folder" "$folder" >"$folder/show"
     terminal new-session -d -s alone -x "$2" -y "$1" "sh $folder/show" \; set -g status off
     terminal resize-window -t alone -x "$2" -y "$1" 2>/dev/null
+    wait_for test -e "$folder/shown"
     settled_screen alone
     terminal kill-session -t alone
 }
@@ -38,21 +40,21 @@ part_reads() { sleep 0.5; }
 check_edit() {
     make_note
     start 8 40 "$top/bidi-edit" note
-    same 'edit, opened' "$(settled_screen person)" "$(alone 8 40 "$folder/opened" '')"
+    same_screen 'edit, opened' "$(alone 8 40 "$folder/opened" '')"
     type_keys -l 'new א '
     type_keys Right Left M-Right Right
     typed='new א \033[C\033[D\006\033[C'
-    same 'edit, typed and moved' "$(settled_screen person)" "$(alone 8 40 "$folder/opened" "$typed")"
+    same_screen 'edit, typed and moved' "$(alone 8 40 "$folder/opened" "$typed")"
     for size in '12 24' '7 60' '16 15'; do
         resize "${size% *}" "${size#* }"
-        same "edit, resized to $size" "$(settled_screen person)" "$(alone "${size% *}" "${size#* }" "$folder/opened" "$typed")"
+        same_screen "edit, resized to $size" "$(alone "${size% *}" "${size#* }" "$folder/opened" "$typed")"
     done
     # of the last size
     rows=16
     type_keys C-s
     part_reads
     type_keys C-q
-    finish 'edit, saved' 0 50
+    finish 'edit, saved' 0
     # shellcheck disable=SC2059
     printf "new א $text" >"$folder/expected"
     cmp note "$folder/expected" >"$folder/differs" 2>&1
@@ -60,31 +62,29 @@ check_edit() {
     same 'edit, files beside it' "$(ls)" note
 }
 
-# Enter puts in the line end that the text has. The host tells of a file whose line ends are no longer alike after the session.
+# Enter puts in the line end that the text has. Ctrl-J inserts LF in any text.
 check_line_ends() {
     printf 'ab\r\ncd\r\nef' >note
     start 8 40 "$top/bidi-edit" note
     type_keys x Enter C-s
     part_reads
     type_keys C-q
-    finish 'breaks, alike' 0 50
+    finish 'breaks, alike' 0
     same 'breaks, alike: the words' "$(cat "$folder/errors")" ''
     same 'breaks, what Enter puts in' "$(od -An -c note | tr -d ' \n')" 'x\r\nab\r\ncd\r\nef'
     start 8 40 "$top/bidi-edit" note
     type_keys C-j C-s
     part_reads
     type_keys C-q
-    finish 'breaks, mixed' 0 50
-    same 'breaks, mixed: the words' "$(cat "$folder/errors")" \
-        "bidi-edit: note now has mixed line ends, CR LF and LF: perl -pi -e 's/\\r?\\n/\\r\\n/' note makes all of them CR LF"
-    perl -pi -e 's/\r?\n/\r\n/' note
-    same 'breaks, what it says' "$(od -An -c note | tr -d ' \n')" '\r\nx\r\nab\r\ncd\r\nef'
+    finish 'breaks, mixed' 0
+    same 'breaks, mixed: the words' "$(cat "$folder/errors")" ''
+    same 'breaks, mixed: what Ctrl-J inserts' "$(od -An -c note | tr -d ' \n')" '\nx\r\nab\r\ncd\r\nef'
     printf 'ab\ncd\r\n' >note
     start 8 40 "$top/bidi-edit" note
     type_keys Enter C-s
     part_reads
     type_keys C-q
-    finish 'breaks, mixed before' 0 50
+    finish 'breaks, mixed before' 0
     same 'breaks, mixed before: the words' "$(cat "$folder/errors")" ''
     same 'breaks, mixed before: what Enter puts in' "$(od -An -c note | tr -d ' \n')" '\nab\ncd\r\n'
     rm -f note
@@ -95,11 +95,10 @@ check_quit() {
     make_note
     start 8 60 "$top/bidi-edit" note
     type_keys x C-q
-    seen=$(settled_screen person)
-    same 'quit, once with changes' "$seen" "$(alone 8 60 "$folder/opened" 'x\021')"
-    has 'quit, its message' "$seen" 'unsaved: ^Q again'
+    same_screen 'quit, once with changes' "$(alone 8 60 "$folder/opened" 'x\021')"
+    has_on_screen 'quit, its message' 'unsaved: ^Q again'
     type_keys C-q
-    finish 'quit, twice' 0 50
+    finish 'quit, twice' 0
     cmp note "$folder/opened" >/dev/null
     report 'quit, the file is as before' $? 'it is not'
 }
@@ -111,9 +110,9 @@ check_long_paste() {
     terminal load-buffer -b text "$folder/paste"
     terminal paste-buffer -r -b text -t person
     type_keys C-s
-    wait_for 3000 test -s new
+    wait_minutes 5 test -s new
     type_keys C-q
-    finish 'long paste' 0 50
+    finish 'long paste' 0
     cmp new "$folder/paste" >"$folder/differs" 2>&1
     report 'long paste, saved' $? "$(cat "$folder/differs")"
     rm -f new
@@ -125,13 +124,13 @@ check_editor_end() {
     start 8 60 "$top/bidi-edit" note
     # the program by its words; the host's have no such path
     send_signal TERM '.*/bidi_edit --'
-    finish 'end, the program killed' 143 50
+    finish 'end, the program killed' 143
     for signal in TERM HUP; do
         start 8 60 "$top/bidi-edit" note
         type_keys x
-        wait_for 30 shows 'xשלום'
+        wait_for shows 'xשלום'
         send_signal "$signal" ".*bidi-edit note"
-        finish "end, the host by $signal" "$((128 + $(signal_number "$signal")))" 50
+        finish "end, the host by $signal" "$((128 + $(signal_number "$signal")))"
         has "end, the host by $signal: what is told" "$(cat "$folder/errors")" 'bidi_edit: input ended before saving'
         has "end, the host by $signal: what is kept" "$(cat "$folder/errors")" 'bidi-edit --recover note restores it'
     done
@@ -148,7 +147,7 @@ shows() { # TEXT
 check_files() {
     start 8 60 "$top/bidi-edit" missing
     type_keys C-q
-    finish 'file, missing' 0 50
+    finish 'file, missing' 0
     test ! -e missing
     report 'file, missing: none is made' $? 'there is one'
 }
@@ -158,9 +157,9 @@ check_line() {
     awk 'BEGIN { for (i = 1; i <= 100; i++) print "line", i }' >note
     for word in +50 --line=50; do
         start 8 60 "$top/bidi-edit" "$word" note
-        has "line, by $word" "$(settled_screen person)" '- 50:1'
+        has_on_screen "line, by $word" '- 50:1'
         type_keys C-q
-        finish "line, by $word" 0 50
+        finish "line, by $word" 0
     done
 }
 
@@ -170,11 +169,11 @@ check_editor_stop() {
     job_shell='sh'
     start_shell 8 50 "$top/bidi-edit" note
     type_keys -l new
-    wait_for 30 shows 'new'
+    wait_for shows 'new'
     stop_and_take_up 'stop, the editor'
-    same 'stop, the editor is painted anew' "$(settled_screen person)" "$(alone 8 50 "$folder/opened" new)"
+    same_screen 'stop, the editor is painted anew' "$(alone 8 50 "$folder/opened" new)"
     type_keys -l er
-    same 'stop, the editor goes on' "$(settled_screen person)" "$(alone 8 50 "$folder/opened" newer)"
+    same_screen 'stop, the editor goes on' "$(alone 8 50 "$folder/opened" newer)"
     type_keys C-q C-q
     finish_shell 'stop, the editor' 0
 }
@@ -184,9 +183,9 @@ check_install() {
     sh "$top/tools/install.sh" "$folder/prefix" >/dev/null
     printf 'ab' >note
     start 8 60 "$folder/prefix/bin/bidi-edit" note
-    same 'install, opened' "$(settled_screen person)" "$(alone 8 60 note '')"
+    same_screen 'install, opened' "$(alone 8 60 note '')"
     type_keys C-q
-    finish install 0 50
+    finish install 0
     sh "$top/tools/install.sh" --uninstall "$folder/prefix" >/dev/null
     same 'install, taken away' "$(ls -d "$folder/prefix" 2>/dev/null)" ''
 }

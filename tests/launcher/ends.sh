@@ -7,24 +7,28 @@
 check_input_end() {
     for signal in TERM HUP INT QUIT; do
         start 24 80 "$recorder" f
-        wait_for 50 test -e "$folder/record"
+        wait_for test -e "$folder/record"
         type_keys -l typed
-        wait_for 50 has_recorded typed
+        wait_for has_recorded typed
         send_signal "$signal" ".*bin/bidi-edit"
-        finish "kill, the host by $signal" "$((128 + $(signal_number "$signal")))" 50
+        finish "kill, the host by $signal" "$((128 + $(signal_number "$signal")))"
         same "kill, the host by $signal: the program's input" "$(cat "$folder/record")" 'typed end'
     done
     start 24 80 "$recorder" f
-    wait_for 50 test -e "$folder/record"
+    wait_for test -e "$folder/record"
     type_keys -l typed
-    wait_for 50 has_recorded typed
+    wait_for has_recorded typed
     terminal kill-session -t person
-    wait_for 50 has_recorded 'typed end'
+    wait_for has_recorded 'typed end'
     same 'kill, the terminal: the program'"'"'s input' "$(cat "$folder/record")" 'typed end'
-    wait_for 50 test -z "$(ls -A "$folder/private")"
+    wait_for is_private_empty
     same 'kill, the terminal: files that stay' "$(ls -A "$folder/private")" ''
-    wait_for 50 has_no_recorder
+    wait_for has_no_recorder
     same 'kill, the terminal: processes that stay' "$(pgrep -f "$folder/recorder" | wc -l)" 0
+}
+
+is_private_empty() {
+    [ -z "$(ls -A "$folder/private")" ]
 }
 
 has_no_recorder() {
@@ -37,12 +41,12 @@ check_hard_ends() {
     for signal in TERM HUP; do
         start 24 80 "$recorder" still
         send_signal "$signal" ".*bin/bidi-edit"
-        finish "kill, the host of a program that hangs by $signal" "$((128 + $(signal_number "$signal")))" 60
+        finish "kill, the host of a program that hangs by $signal" "$((128 + $(signal_number "$signal")))"
     done
     start 24 80 "$recorder" still
-    wait_for 50 test -s "$folder/words"
+    wait_for test -s "$folder/words"
     send_signal KILL 'sleep 1000'
-    finish 'kill, the program' 137 50
+    finish 'kill, the program' 137
     start 24 80 "$recorder" still
     terminal load-buffer -b text "$folder/paste"
     terminal paste-buffer -r -b text -t person
@@ -51,7 +55,7 @@ check_hard_ends() {
     sleep 0.3
     send_signal TERM ".*bin/bidi-edit"
     is_flooded=1
-    finish 'kill, the host while the pipe is full' 143 60
+    finish 'kill, the host while the pipe is full' 143
     is_flooded=''
 }
 
@@ -81,10 +85,10 @@ start_shell() { # ROWS COLS EDITOR WORD..
     rows=$1 cols=$2
     open_person "$1" "$2" "cd '$folder/files'; exec $command"
     shift 2
-    wait_for 50 shows 'ready>'
+    wait_for shows 'ready>'
     give_line "stty -g >$folder/before"
     give_line "$* 2>$folder/errors"
-    wait_for 50 is_editing
+    wait_for is_editing
 }
 
 # Gives the shell a line. It ends with a line feed, since a stopped job leaves the terminal raw and some shells do not reset it.
@@ -101,12 +105,12 @@ check_stop() { # SHELL
         return
     fi
     start_shell 8 50 "$recorder" f
-    wait_for 50 test -e "$folder/record"
+    wait_for test -e "$folder/record"
     stop_and_take_up "stop, in $1"
-    wait_for 50 has_got '[8;8;50t'
+    wait_for has_got '[8;8;50t'
     same "stop, in $1: the size is told again" "$(tr -d '\033' <"$folder/record")" '[8;8;50t'
     has 'stop, the modes are set again' "$(written)" '^[[?1047h^[[?1l^[(B^O^[[4l^[[?6l^[[r^[[?7h^[[?25h^[[8l^[[1 k'
-    wait_for 20 is_raw
+    wait_for is_raw
     report 'stop, the terminal is raw again' $? "$(stty -a -F "$tty")"
     type_keys C-q
     finish_shell stop 7
@@ -116,11 +120,11 @@ check_stop() { # SHELL
 stop_and_take_up() { # NAME
     host=$(process_of ".*bidi-edit")
     kill -s STOP -- "-$(ps -o pgid= -p "$host" | tr -d ' ')"
-    wait_for 50 is_stopped "$host"
+    wait_for is_stopped "$host"
     # the shell takes the terminal back
     sleep 0.3
     give_line 'echo the shell has it >said'
-    wait_for 30 test -s "$folder/files/said"
+    wait_for test -s "$folder/files/said"
     report "$1, the shell has the terminal" $? 'it takes no line'
     rm -f "$folder/files/said"
     give_line fg
@@ -130,9 +134,9 @@ stop_and_take_up() { # NAME
 
 # What `finish` does, for a session of `start_shell`.
 finish_shell() { # NAME STATUS
-    wait_for 50 is_over || report "$1, its end" 1 'it goes on'
+    wait_for is_over || report "$1, its end" 1 'it goes on'
     give_line "echo \$? >$folder/status; stty -g >$folder/after; touch $folder/ended"
-    wait_for 50 has_ended
+    wait_for has_ended
     same "$1, status" "$(cat "$folder/status" 2>/dev/null)" "$2"
     same "$1, the terminal's settings" "$(cat "$folder/after" 2>/dev/null)" "$(cat "$folder/before")"
     same "$1, the terminal's modes" "$(modes_of person)" "0 0 0 $((rows - 1)) 1 1"

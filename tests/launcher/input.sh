@@ -29,7 +29,7 @@ settled_journal() {
 start_kept() {
     rm -f note
     start 8 50 "$top/bidi-edit" note
-    wait_for 100 shows '- 1:1'
+    wait_for shows '- 1:1'
 }
 
 # Whether the journal of the session is this long at least.
@@ -40,7 +40,7 @@ has_kept() { # BYTES
 # Ends the editor, whose text is not saved, and which may ask something.
 end_kept() { # NAME
     send_signal TERM '.*bidi-edit note'
-    finish "$1" 143 100
+    finish "$1" 143
     rm -f note
 }
 
@@ -192,18 +192,18 @@ check_big_paste() {
     same 'input, the paste has 1 MB' "$(($(wc -c <"$folder/cycle")))" 1048576
     start_kept
     type_bytes "$folder/big"
-    wait_for 1200 has_kept "$(wc -c <"$folder/big_pasted")"
+    wait_minutes 2 has_kept "$(wc -c <"$folder/big_pasted")"
     journal >"$folder/record"
     cmp "$folder/record" "$folder/big_pasted" >"$folder/differs" 2>&1
     report 'input, a paste of 1 MB with every byte' $? "$(cat "$folder/differs")"
     type_keys -l z
     type_keys C-s
-    wait_for 600 test -s note
+    wait_for test -s note
     same 'input, 1 MB pasted into the editor: its end' "$(tail -c 1 note)" z
     iconv -f UTF-8 -t UTF-8 note >/dev/null 2>&1
     report 'input, 1 MB pasted into the editor: its text' $? 'it is not UTF-8'
     type_keys C-q
-    finish 'input, 1 MB pasted into the editor' 0 100
+    finish 'input, 1 MB pasted into the editor' 0
     rm -f note
 }
 
@@ -216,7 +216,7 @@ check_marks() {
     same 'input, a paste of tmux' "$(settled_journal | cat -v)" "$(printf '^[[90~one\ntwo^[[91~')"
     end_kept 'input, marks'
     has 'input, pastes asked for' "$(written)" '^[[?2004h'
-    has 'input, and given back' "$(written)" '^[[?2004l^[[0m'
+    has 'input, and given back' "$(written)" '^[[?2004l^[[?1002l^[[?1006l^[[0m'
 }
 
 # Tests the editor itself: Home from rxvt, F2, and a lone Escape before a paste of bytes that look like keys. `none` is not there.
@@ -225,13 +225,13 @@ check_editor_input() {
     start 8 40 "$top/bidi-edit" note
     printf 'abc\033[7~X\033OQ\033\033[200~[A\023\021\021\033[201~y' >"$folder/keys"
     type_bytes "$folder/keys"
-    same 'input, keys and a paste in the editor' "$(settled_screen person)" "$(alone 8 40 "$folder/none" 'abc\033[HX\033[9~[Ay')"
+    same_screen 'input, keys and a paste in the editor' "$(alone 8 40 "$folder/none" 'abc\033[HX\033[9~[Ay')"
     same 'input, nothing is saved by a paste' "$(ls)" ''
     type_keys C-s
-    wait_for 20 test -s note
+    wait_for test -s note
     same 'input, what was pasted is saved' "$(cat note)" 'X[Ayabc'
     type_keys C-q
-    finish 'input, the editor' 0 50
+    finish 'input, the editor' 0
     rm -f note
 }
 
@@ -244,9 +244,9 @@ check_escape() {
     # longer than the 50 ms for which an Escape waits
     sleep 0.3
     type_keys -l '[A'
-    same 'input, an Escape that nothing follows, in the editor' "$(settled_screen person)" "$(alone 8 40 "$folder/none" 'ab[A')"
+    same_screen 'input, an Escape that nothing follows, in the editor' "$(alone 8 40 "$folder/none" 'ab[A')"
     type_keys C-q C-q
-    finish 'input, an Escape' 0 50
+    finish 'input, an Escape' 0
 }
 
 check_input() {

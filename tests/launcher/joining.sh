@@ -16,9 +16,9 @@ joined_by() { # NAME WANTED WORD..
     name=$1 wanted_files=$2
     shift 2
     start 8 40 "$recorder" "$@"
-    wait_for 50 test -e "$folder/record"
+    wait_for test -e "$folder/record"
     type_keys C-q
-    wait_for 50 has_ended
+    wait_for has_ended
     same "$name" "$(joining_words "$folder/words")" "$wanted_files"
     terminal kill-session -t person
 }

@@ -10,7 +10,7 @@ press() { # NAME ROWS CURSOR [KEY..]
     name="keys, $1" wanted_screen=$(printf '%s\n%s' "$2" "$3")
     shift 3
     [ $# = 0 ] || type_keys "$@"
-    same "$name" "$(settled_screen person)" "$wanted_screen"
+    same_screen "$name" "$wanted_screen"
 }
 
 # The keys that are one byte in each terminal: Ctrl with @, X, V, C, W and R.
@@ -37,9 +37,9 @@ check_control_bytes() {
     press 'the line copied' 'aaםלוע םו cd|||* 1:8 line copied' 3,0 C-c
     press 'the line put' 'aaםלוע םו cd|aaםלוע םו cd||* 2:1' 0,1 Home C-v
     type_keys C-s
-    wait_for 30 shows saved
+    wait_for shows saved
     type_keys C-q
-    finish 'keys, one byte' 0 50
+    finish 'keys, one byte' 0
     same 'keys, one byte: the saved file' "$(paste -s -d '|' note)" 'aaום עולם cd|aaום עולם cd'
     rm -f note
 }
@@ -47,7 +47,7 @@ check_control_bytes() {
 # Leaves a changed text, which is not saved.
 drop() { # NAME
     type_keys C-q C-q
-    finish "keys, $1" 0 50
+    finish "keys, $1" 0
     rm -f note
 }
 
@@ -127,9 +127,9 @@ check_questions() {
     press 'a question given up by Escape' 'ab|cde||f|- 4:1' 0,3 C-k Escape
     press 'a region' 'ab|<cd>e||f|- 2:3' 2,1 C-g 2 Enter C-@ M-Right M-Right
     type_keys C-k i C-s
-    wait_for 30 shows saved
+    wait_for shows saved
     type_keys C-q
-    finish 'keys, questions' 0 50
+    finish 'keys, questions' 0
     same 'keys, questions: the saved file' "$(paste -s -d '|' note)" "$(printf 'ab|\342\201\246cd\342\201\251e||f')"
     rm -f note
 }
@@ -146,9 +146,9 @@ check_pasted() {
     press 'a paste taken back' 'ab|cd||||- 1:3' 2,0 C-z
     press 'a paste made again' 'abone two|three|cd|||* 2:6' 5,1 C-y
     type_keys C-s
-    wait_for 30 shows saved
+    wait_for shows saved
     type_keys C-q
-    finish 'keys, a paste' 0 50
+    finish 'keys, a paste' 0
     same 'keys, a paste: the saved file' "$(od -An -c note | tr -d ' \n')" 'abonetwo\r\nthree\r\ncd\r\n'
     rm -f note
 }
@@ -256,9 +256,9 @@ check_new_line() {
     press 'a new line erased as one' 'a|b|cd|ef||* 4:1' 0,3 BSpace
     press 'and put back' 'a|b|cd||ef|* 5:1' 0,4 C-z
     type_keys C-s
-    wait_for 30 shows saved
+    wait_for shows saved
     type_keys C-q
-    finish 'keys, a new line' 0 50
+    finish 'keys, a new line' 0
     same 'keys, a new line: the saved file' "$(od -An -c note | tr -d ' \n')" 'a\r\nb\r\ncd\n\r\nef'
     rm -f note
 }
@@ -282,7 +282,17 @@ send() { # NAME LAST CURSOR SEQUENCE
     # shellcheck disable=SC2059
     printf "$4" >"$folder/keys"
     type_bytes "$folder/keys"
-    same "keys, $sender, $1" "$(settled_screen person | sed '1s/.*|//' | paste -s -d ' ')" "$2 $3"
+    rest_until ends_with "$2 $3"
+    same "keys, $sender, $1" "$(last_row)" "$2 $3"
+}
+
+# Prints the last row of `shown`, and the cursor.
+last_row() {
+    echo "$shown" | sed '1s/.*|//' | paste -s -d ' '
+}
+
+ends_with() { # ROW-AND-CURSOR
+    [ "$(last_row)" = "$1" ]
 }
 
 # The second line goes from right to left: it begins in column 79, the last of the window.

@@ -10,12 +10,12 @@ bad_modes='\033[4h\033[?6h\033[2;4r\033[?7l\033(0\033[?25l'
 # The sequences are those of host/terminal.c and host/kinds.c.
 check_modes() {
     start 8 50 "$recorder" f
-    wait_for 50 test -e "$folder/record"
+    wait_for test -e "$folder/record"
     type_keys C-q
-    finish modes 7 50
+    finish modes 7
     has 'modes, kept at the start' "$(written)" '^[7^[[?1s^[[?1036s^[[22;0t^[[?1049h'
     has 'modes, told at the start' "$(written)" '^[[?1049h^[[?1l^[(B^O^[[4l^[[?6l^[[r^[[?7h^[[?25h^[[8l^[[1 k^[[?1036h'
-    has 'modes, told at the end' "$(written)" '^[[0m^[[?1r^[[?1036r^[[?25h^[[0 k^[[8h^[[23;0t^[[?1049l'
+    has 'modes, told at the end' "$(written)" '^[[0m^[[?1r^[[?1036r^[[?25h^[[0 k^[[8h^[Ptmux;^[^[[?1036r^[\^[[23;0t^[[?1049l'
 }
 
 # Whether the terminal reports presses and drags, and reports in numbers; 1 is on.
@@ -26,35 +26,39 @@ reports() {
 # Reports of the mouse are asked for, unless --no-mouse is said, and taken back.
 check_mouse_modes() {
     start 8 50 "$recorder" f
-    wait_for 50 test -e "$folder/record"
+    wait_for test -e "$folder/record"
     same 'modes, the mouse is reported' "$(reports)" '1 1'
     type_keys C-q
-    wait_for 50 has_ended
+    wait_for has_ended
     same 'modes, and no more at the end' "$(reports)" '0 0'
-    finish 'modes, the mouse' 7 50
+    finish 'modes, the mouse' 7
     has 'modes, the mouse: told at the start' "$(written)" '^[[?2004h^[[?1006h^[[?1002h'
-    has 'modes, the mouse: told at the end' "$(written)" '^[[?1002l^[[?1006l^[[?2004l'
+    has 'modes, the mouse: told at the end' "$(written)" '^[[?1002l^[[?1006l'
     start 8 50 "$recorder" f
-    wait_for 50 test -e "$folder/record"
+    wait_for test -e "$folder/record"
+    # the watcher restores the terminal, while the shell goes on
+    cleanup="until [ \"\$(stty -g)\" = \"\$(cat '$folder/before')\" ]; do sleep 0.1; done"
+    rows_told='bidi-edit was killed: bidi-edit --recover f restores unsaved text'
     send_signal KILL ".*bin/bidi-edit"
-    wait_for 50 is_over
+    wait_for shows 'was killed'
     same 'modes, no reports after a kill' "$(reports)" '0 0'
-    finish 'modes, the host killed' 137 50
+    finish 'modes, the host killed' 137
+    cleanup='' rows_told=''
     start 8 50 "$recorder" --no-mouse f
-    wait_for 50 test -e "$folder/record"
+    wait_for test -e "$folder/record"
     same 'modes, --no-mouse' "$(reports)" '0 0'
     type_keys C-q
-    finish 'modes, --no-mouse' 7 50
+    finish 'modes, --no-mouse' 7
 }
 
 # Kills the program after it turned on negative image and hid the cursor.
 check_killed_program() {
     start 8 50 "$recorder" still
-    wait_for 50 test -s "$folder/words"
+    wait_for test -s "$folder/words"
     printf '\033[7m\033[?25l' >"$tty"
     # which the recorder of `still` is
     send_signal KILL 'sleep 1000'
-    finish 'modes, the program killed' 137 50
+    finish 'modes, the program killed' 137
 }
 
 # The screen is that of the program alone, and the modes are those that `modes_of` prints for a fresh terminal of 8 rows.
@@ -63,10 +67,10 @@ check_bad_modes() {
     printf 'abc שָׁלוֹם def\nsecond line\n\nfourth' >note
     cp note "$folder/opened"
     start 8 50 "$top/bidi-edit" note
-    same 'modes, whatever another program left' "$(settled_screen person)" "$(alone 8 50 "$folder/opened" '')"
+    same_screen 'modes, whatever another program left' "$(alone 8 50 "$folder/opened" '')"
     same 'modes, whatever another program left: flags' "$(modes_of person)" '0 0 0 7 1 1'
     type_keys C-q
-    finish 'modes, of another program' 0 50
+    finish 'modes, of another program' 0
     setup=''
     rm note
 }
@@ -77,9 +81,9 @@ check_last_column() {
     cp note "$folder/opened"
     setup="printf '\033[?7l'"
     start 4 20 "$top/bidi-edit" note
-    has 'modes, marks in the last column' "$(settled_screen person)" 'שָׁ|'
+    has_on_screen 'modes, marks in the last column' 'שָׁ|'
     type_keys C-q
-    finish 'modes, last column' 0 50
+    finish 'modes, last column' 0
     setup=''
     rm note
 }
@@ -94,14 +98,14 @@ check_no_wait() {
     cleanup='perl -MFcntl -e "fcntl(STDIN, F_SETFL, fcntl(STDIN, F_GETFL, 0) & ~O_NONBLOCK)"'
     setup=$set_flag
     start 8 50 "$recorder" f
-    wait_for 50 test -e "$folder/record"
+    wait_for test -e "$folder/record"
     # a read that does not wait would find nothing meanwhile
     sleep 0.3
     type_keys -l keys
-    wait_for 30 has_recorded keys
+    wait_for has_recorded keys
     same 'nonblock, keys of a terminal that does not wait' "$(cat "$folder/record" 2>/dev/null)" keys
     type_keys C-q
-    finish nonblock 7 50
+    finish nonblock 7
     setup='' cleanup=''
 }
 
@@ -109,12 +113,12 @@ check_no_wait() {
 check_redirections() {
     for redirection in '</dev/null' '</dev/null >/dev/null' '<&-'; do
         start 8 50 "$recorder" f
-        wait_for 50 test -e "$folder/record"
+        wait_for test -e "$folder/record"
         type_keys -l keys
-        wait_for 30 has_recorded keys
+        wait_for has_recorded keys
         same "controlling, keys with $redirection" "$(cat "$folder/record" 2>/dev/null)" keys
         type_keys C-q
-        finish "controlling, with $redirection" 7 50
+        finish "controlling, with $redirection" 7
         has "controlling, the screen with $redirection" "$(written)" '^[[?1049h'
     done
     redirection=''
@@ -129,17 +133,17 @@ title() {
 check_title() {
     setup="printf '\033]2;a title of before\007'"
     start 8 50 "$recorder" "$(printf 'x\033]te\302\205x שם')"
-    wait_for 50 test -e "$folder/record"
+    wait_for test -e "$folder/record"
     same 'title' "$(title)" "\$'x\\033]te\\302\\205x שם' - ^S save ^Q quit F1 keys"
     type_keys C-q
-    wait_for 50 has_ended
+    wait_for has_ended
     same 'title, at the end' "$(title)" 'a title of before'
     terminal kill-session -t person
     setup='unset TMUX VTE_VERSION XTERM_VERSION; export TERM=linux'
     start 8 50 "$recorder" f
-    wait_for 50 test -e "$folder/record"
+    wait_for test -e "$folder/record"
     type_keys C-q
-    finish 'title, elsewhere' 7 50
+    finish 'title, elsewhere' 7
     case $(written) in
     *'^[]'* | *'22;0t'* | *'23;0t'*) report 'title, none where it might stay' 1 "$(written)" ;;
     *) report 'title, none where it might stay' 0 '' ;;
@@ -147,24 +151,18 @@ check_title() {
     setup=''
 }
 
-# The terminal around tmux, which the host tells to stop reordering (8l) and to go on with it (8h): a pane `outer` of the same
-# tmux server, in which a client shows the session `keep`, the one that the callers of these parts hold open.
+# The host writes nothing to the terminal around tmux, so that it tells it neither to stop reordering (8l) nor to go on with it (8h): a
+# pane `outer` of the same tmux server, in which a client shows the session `keep`, the one that the callers of these parts hold open.
 check_outer() {
-    start 8 50 "$recorder" f
-    type_keys C-q
-    finish 'outer, none' 7 50
     start_outer
     start 8 50 "$recorder" f
-    wait_for 50 outer_has '^[[8l'
-    outer_has '^[[8l'
-    report 'outer, told' $? "$(cat -v "$folder/outer")"
-    outer_has '^[[8h'
-    same 'outer, not yet at the end' $? 1
+    wait_for test -e "$folder/record"
     type_keys C-q
-    wait_for 50 has_ended
-    wait_for 20 outer_has '^[[8h'
-    report 'outer, told at the end' $? "$(cat -v "$folder/outer")"
-    terminal kill-session -t person
+    finish 'outer' 7
+    for mode in 8l 8h; do
+        outer_has "^[[$mode"
+        same "outer, nothing is told: $mode" $? 1
+    done
     terminal kill-session -t outer
 }
 
@@ -173,7 +171,7 @@ start_outer() {
     rm -f "$folder/outer"
     terminal new-session -d -s outer -x 60 -y 12 "sleep 0.5; env -u TMUX tmux -u -L $socket attach -t keep"
     terminal pipe-pane -t outer "cat >'$folder/outer'"
-    wait_for 50 outer_is_attached
+    wait_for outer_is_attached
 }
 
 outer_is_attached() {

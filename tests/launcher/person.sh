@@ -9,6 +9,7 @@
 #   wanted    the beginnings of the names of the checks to run, with blanks between; empty for all
 #   tables    BIDI_EDIT_DATA of sessions; empty for none
 #   setup cleanup redirection as   parts of a session's script, see `start`; mostly empty
+#   rows_told   the rows that are on the screen after a session; mostly empty
 #   is_flooded   not empty: the host ends before it has read all that was pasted
 # The functions set `tty`, the device of the session's terminal, and `rows` and `cols`, its size at the start; a check that
 # changes the height sets `rows` for `finish`. They count in `passed`, `failed` and `skipped`. The session of tmux is `person`;
@@ -61,6 +62,42 @@ settled_screen() { # SESSION
         [ "$quiet" -lt 3 ] || break
     done
     printf '%s\n' "$now"
+}
+
+# Whether `shown` is this screen, or has this in its rows.
+is_screen() { # SCREEN
+    [ "$shown" = "$1" ]
+}
+
+screen_has() { # TEXT
+    case $shown in *"$1"*) return 0 ;; esac
+    return 1
+}
+
+# Sets `shown` to the session's screen once it rests; if the command does not succeed by then, also waits for that.
+rest_until() { # COMMAND..
+    shown=$(settled_screen person)
+    "$@" || {
+        wait_for look_again "$@"
+        shown=$(settled_screen person)
+    }
+}
+
+look_again() { # COMMAND..
+    shown=$(screen_of person)
+    "$@"
+}
+
+# Waits until the session's screen is as wanted, and reports it.
+same_screen() { # NAME SCREEN
+    rest_until is_screen "$2"
+    same "$1" "$shown" "$2"
+}
+
+# Waits until the session's screen has a text, and reports it.
+has_on_screen() { # NAME TEXT
+    rest_until screen_has "$2"
+    has "$1" "$shown" "$2"
 }
 
 # Prints the bytes that the host and its program have written so far, with escapes as ^[.
@@ -128,7 +165,7 @@ start() { # ROWS COLS EDITOR WORD..
     } >"$folder/run"
     open_person "$rows" "$cols" "sh $folder/run"
     : >"$folder/go"
-    wait_for 50 is_editing_or_over
+    wait_for is_editing_or_over
 }
 
 # Opens a window of this size, runs a command in it, and records its output. Sets `tty`.
@@ -138,7 +175,7 @@ open_person() { # ROWS COLS COMMAND
     terminal resize-window -t person -x "$2" -y "$1" 2>/dev/null
     tty=$(terminal display-message -p -t person '#{pane_tty}')
     terminal pipe-pane -t person "cat >'$folder/output'"
-    wait_for 20 test -e "$folder/output"
+    wait_for test -e "$folder/output"
 }
 
 # Types keys, by their names in tmux; after -l as they stand.
@@ -156,9 +193,9 @@ processes() {
     ps -t "${tty#/dev/}" -o args= | grep -v -x -e "sh $folder/run" -e 'sleep 600' -e '.*sh.* -i' -e '.*<defunct>' | paste -s -d '|'
 }
 
-# Waits for the editor's end, TENTHS of a second at most, checks its status and that all is as before, and closes the terminal.
-finish() { # NAME STATUS TENTHS
-    wait_for "$3" has_ended || report "$1, its end" 1 'it goes on'
+# Waits for the editor's end, checks its status and that all is as before, and closes the terminal.
+finish() { # NAME STATUS
+    wait_for has_ended || report "$1, its end" 1 'it goes on'
     same "$1, status" "$(cat "$folder/status" 2>/dev/null)" "$2"
     same "$1, the terminal's settings" "$(cat "$folder/after" 2>/dev/null)" "$(cat "$folder/before")"
     same "$1, processes that stay" "$(processes)" ''
@@ -168,12 +205,13 @@ finish() { # NAME STATUS TENTHS
         terminal kill-session -t person
         return
     fi
-    # one row alone, which `start` wrote; then the modes as a fresh terminal has them
-    same "$1, the screen before" "$(terminal capture-pane -p -t person | grep -c .) $(terminal capture-pane -p -t person | head -n 1)" '1 as before'
+    # what `start` wrote alone, and what is told; then the modes as a fresh terminal has them
+    same "$1, the screen before" "$(terminal capture-pane -p -J -t person | sed 's/ *$//' | grep .)" "as before${rows_told:+
+$rows_told}"
     same "$1, the terminal's modes" "$(modes_of person)" "0 0 0 $((rows - 1)) 1 1"
     type_keys -l 'a line'
     type_keys Enter
-    wait_for 20 test -s "$folder/line"
+    wait_for test -s "$folder/line"
     same "$1, the shell's next line" "$(cat "$folder/line" 2>/dev/null)" 'a line'
     terminal kill-session -t person
 }
@@ -203,7 +241,7 @@ is_there() { # PATTERN
 
 # Sends a signal to a process of this terminal, once it exists.
 send_signal() { # SIGNAL PATTERN
-    wait_for 50 is_there "$2"
+    wait_for is_there "$2"
     kill -s "$1" "$(process_of "$2")"
 }
 

@@ -57,9 +57,20 @@ last' --direction ltr --print ./-text
     printed 'printing, letters apart' '       باب' --print --no-joining --cols 10 ./-text
 }
 
+# A named pipe is opened once, by the printing program: what its writer gives is printed.
+check_printed_pipe() {
+    mkfifo pipe
+    printf 'abc\n' >pipe &
+    timeout 20 "$top/bidi-edit" --print pipe </dev/null >"$folder/output" 2>&1
+    same 'printing, a named pipe' "$? $(cat "$folder/output")" '0 abc'
+    kill "$!" 2>/dev/null
+    rm -f pipe
+}
+
 check_printing() {
     asked printing || return 0
     check_refused_prints
     check_printed_rows
+    check_printed_pipe
     rm -f -- -text bytes
 }

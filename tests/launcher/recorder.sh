@@ -72,7 +72,7 @@ has_recorded() { # BYTES
 check_words() {
     start 23 77 "$recorder" --direction rtl 'a file'
     type_keys C-q
-    finish words 7 50
+    finish words 7
     same 'words, rows' "$(word_after --rows)" 23
     same 'words, columns' "$(word_after --cols)" 77
     same 'words, direction' "$(word_after --direction)" rtl
@@ -86,9 +86,9 @@ line_of() { # NAME WANTED WORD..
     name=$1 wanted_line=$2
     shift 2
     start 8 40 "$recorder" "$@"
-    wait_for 50 test -e "$folder/record"
+    wait_for test -e "$folder/record"
     type_keys C-q
-    wait_for 50 has_ended
+    wait_for has_ended
     same "$name" "$(grep -x -e --line "$folder/words" >/dev/null && word_after --line) $(tail -n 1 "$folder/words")" "$wanted_line"
     terminal kill-session -t person
 }
@@ -113,13 +113,13 @@ check_lines() {
 check_tables() {
     tables=$top/data
     start 24 80 "$recorder" f
-    wait_for 50 test -e "$folder/record"
+    wait_for test -e "$folder/record"
     type_keys C-q
-    finish tables 7 50
+    finish tables 7
     same 'tables, where BIDI_EDIT_DATA says' "$(word_after --classes)" "$top/data/DerivedBidiClass.txt"
     tables=$folder/files
     start 24 80 "$recorder" f
-    finish 'tables, none there' 1 50
+    finish 'tables, none there' 1
     same 'tables, none there: the words' "$(cat "$folder/errors")" \
         "bidi-edit: BIDI_EDIT_DATA names $folder/files, which lacks DerivedBidiClass.txt, BidiBrackets.txt or BidiMirroring.txt: correct or unset it"
     tables=''
@@ -135,15 +135,15 @@ check_sizes() {
     sleep 0.4
     type_keys a C-q
     rows=10
-    finish size 7 50
+    finish size 7
     same 'size, each one told while nothing is typed' "$(tr -d '\033' <"$folder/record")" '[8;30;100t[8;10;40ta'
     start 24 600 "$recorder" f
-    same 'size, a wide window' "$(wait_for 50 test -s "$folder/words" && word_after --cols)" 500
+    same 'size, a wide window' "$(wait_for test -s "$folder/words" && word_after --cols)" 500
     resize 20 700
     sleep 0.4
     type_keys C-q
     rows=20
-    finish 'size, of a wide window' 7 50
+    finish 'size, of a wide window' 7
     same 'size, a wide window told' "$(tr -d '\033' <"$folder/record")" '[8;20;500t'
 }
 
@@ -160,7 +160,7 @@ check_paste() {
     sleep 1
     type_keys C-q
     rows=20
-    finish paste 7 300
+    finish paste 7
     sed -e 's/\x1b\[8;[0-9]*;[0-9]*t//g' "$folder/record" >"$folder/typed"
     cat "$folder/paste" "$folder/paste" >"$folder/twice"
     cmp "$folder/typed" "$folder/twice" >"$folder/differs" 2>&1
@@ -182,7 +182,7 @@ check_whole_keys() {
     sleep 0.5
     type_keys C-q
     rows=25
-    finish 'paste, keys' 7 50
+    finish 'paste, keys' 7
     same 'paste, keys between sizes' "$(sed -e 's/\x1b\[8;[0-9]*;[0-9]*t//g' "$folder/record" | tr -d '\033')" \
         'א[Cא[Cא[Cא[Cא[Cא[Cא[Cא[Cא[Cא[Cא[Cא[Cא[Cא[Cא[C'
 }
@@ -220,7 +220,7 @@ times_of_ten() {
     } >"$folder/run"
     rm -f "$folder/counted" "$folder/ended"
     terminal new-session -d -s person -x 80 -y 24 "bash $folder/run" \; set -g status off
-    wait_for 200 has_ended
+    wait_for has_ended
     terminal kill-session -t person
     awk 'NR % 2 == 0 { split($0, part, "[ms ]+"); now = (part[1] * 60 + part[2] + part[3] * 60 + part[4]) * 1000; printf "%d\n", now - before; before = now }' "$folder/counted"
 }

@@ -18,15 +18,12 @@ refused() { # NAME WANTED WORD..
     same "$name: nothing else" "$(wc -c <"$folder/output") $(grep -c . "$folder/errors")" "0 $lines_told"
 }
 
-# Checks as `refused` does, but by a user who is not root, so that permissions hold: by 65534 (nobody) where root checks.
+# Checks as `refused` does, but by a user who is not root, so that permissions hold: where root checks, by `another_user`.
 refused_to_user() { # NAME WANTED WORD..
     name=$1 refusal=$2
     shift 2
-    if [ "$(id -u)" = 0 ]; then
-        alone_in_session setpriv --reuid 65534 --regid 65534 --clear-groups "$top/bidi-edit" "$@"
-    else
-        alone_in_session "$top/bidi-edit" "$@"
-    fi
+    # shellcheck disable=SC2086 # words
+    alone_in_session $another_user "$top/bidi-edit" "$@"
     same "$name" "$? $(head -n 1 "$folder/errors")" "$refusal"
 }
 
@@ -95,10 +92,9 @@ name_of() { # BYTES
 }
 
 check_refused_names() {
-    refused 'checks, a name of 252 bytes' "$no_terminal" "$(name_of 252)"
-    long=$(name_of 253)
-    refused 'checks, a name of 253 bytes' "1 bidi-edit: the name '$long' has 253 bytes, too many for a save: the limit is 252, since a save adds 3; --force opens it anyway" "$long"
-    refused 'checks, a name of 253 bytes, forced' "$no_terminal" --force "$long"
+    refused 'checks, a name of 255 bytes' "$no_terminal" "$(name_of 255)"
+    long=$(name_of 256)
+    refused 'checks, a name of 256 bytes' "1 bidi-edit: the name '$long' is too long for its disk: choose a shorter one" "$long"
     refused 'checks, control bytes in a name' "1 bidi-edit: the folder \$'no\\012ne\\033' does not exist: mkdir -p \$'no\\012ne\\033' creates it" "$(printf 'no\nne\033/f')"
     refused 'checks, blanks in a name' "1 bidi-edit: the folder 'no one'\\''s' does not exist: mkdir -p 'no one'\\''s' creates it" "no one's/f"
     refused 'checks, a name that is not UTF-8' "1 bidi-edit: \$'f\\377' has a name that is not UTF-8: rename it with mv" "f$(printf '\377')"
@@ -109,7 +105,7 @@ refused_at_opening() { # NAME WANTED WORD..
     name=$1 refusal=$2
     shift 2
     start 8 50 "$top/bidi-edit" "$@"
-    finish "$name" "${refusal%% *}" 50
+    finish "$name" "${refusal%% *}"
     same "$name: the words" "$(cat "$folder/errors")" "${refusal#* }"
     case $(written) in
     *'^[[?1049h'*) report "$name: the screen stays" 1 "$(written)" ;;
@@ -133,15 +129,15 @@ check_refused_texts() {
     refused_at_opening 'opening, UTF-16' '1 bidi-edit: bytes is UTF-16, not UTF-8: iconv -f UTF-16 -t UTF-8 converts it' bytes
     printf '\177ELF\002\001\001\000\000\377\n' >bytes
     start 8 50 "$top/bidi-edit" bytes
-    finish 'opening, a program' 1 50
+    finish 'opening, a program' 1
     same 'opening, a program: it is no text in another encoding' "$(cat "$folder/errors")" 'bidi-edit: bytes is a binary file, not text: od -c shows its bytes'
     # lines of 17 bytes, cut after a whole letter; with six bytes more it is one byte too long
     awk 'BEGIN { for (n = 0; n < 16777216; n += 17) print "\327\251\327\234\327\225\327\235 \327\234\327\232 ab" }' | head -c 16777211 >bytes
     start 8 50 "$top/bidi-edit" bytes
-    wait_for 100 shows '- 1:1'
-    has 'opening, 16 MB of Hebrew' "$(settled_screen person)" '- 1:1'
+    wait_for shows '- 1:1'
+    has_on_screen 'opening, 16 MB of Hebrew' '- 1:1'
     type_keys C-q
-    finish 'opening, 16 MB of Hebrew' 0 50
+    finish 'opening, 16 MB of Hebrew' 0
     printf '123456' >>bytes
     refused_at_opening 'opening, too long' '1 bidi-edit: bytes has 16777217 bytes, more than the limit of 16777216: split -C 16M cuts it at line ends' bytes
     rm bytes
@@ -149,6 +145,10 @@ check_refused_texts() {
 
 # In `closed` nothing can be named, in `locked` no file can be made, in `open` the files are protected.
 check_refused_access() {
+    if ! as_another_user "$top/bidi-edit" "$folder/files"; then
+        skip access "another user has no access to $top or $folder"
+        return
+    fi
     mkdir closed locked open
     echo text | tee closed/f locked/f locked/g open/f >open/g
     chmod 000 open/g

@@ -5,7 +5,7 @@ import re
 
 from search import CONTROLS, Search
 
-# as the filter of keys lets them through, so that the journal has these very bytes
+# as the journal has them; check-recovery.sh types Alt with an arrow key for back and forward
 BYTES = {"erase": b"\x1b[94~", "delete": b"\x1b[3~", "back": b"\x02", "forward": b"\x06", "undo run": b"\x1b[82~",
          "redo run": b"\x1b[83~", "save": b"\x13", "repaint": b"\x0c", "direction": b"\x1b[9~", "find": b"\x1b[70~",
          "find back": b"\x1b[71~", "mark": b"\x1b[72~", "copy": b"\x1b[73~", "cut": b"\x1b[74~", "put": b"\x1b[75~",

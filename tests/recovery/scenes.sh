@@ -24,7 +24,7 @@ shows() { # TEXT
 
 # Expects a text on the screen.
 expect() { # NAME TEXT
-    wait_for 150 shows "$2" || {
+    wait_for shows "$2" || {
         fails "$1" "'$2' is not seen, but: $(terminal capture-pane -p -J -t shell | tr '\n' '|' | sed 's/|*$//')"
         return 1
     }
@@ -33,7 +33,7 @@ expect() { # NAME TEXT
 # Presses keys that end the editor, and waits for the shell, since the terminal may be raw until the host ends.
 end_by_keys() { # KEY..
     terminal send-keys -t shell "$@"
-    wait_for 150 shows_shell
+    wait_for shows_shell
 }
 
 # Whether the editor's screen is gone, and no process runs under the shell.
@@ -50,11 +50,11 @@ break_off() { # ROW WORDS KEY..
     rm -rf "$shell/state" "$shell"/text*
     printf 'ab\n' >"$shell/text"
     say bidi-edit text
-    wait_for 150 has_row shell '- 1:1'
+    wait_for has_row shell '- 1:1'
     terminal send-keys -t shell "$@"
-    wait_for 150 has_row shell "$row"
+    wait_for has_row shell "$row"
     # a start that has not kept all of it yet leaves no session
-    wait_for 150 has_session
+    wait_for has_session
     process=$(terminal list-panes -t shell -F '#{pane_pid}')
     if [ -n "$words" ]; then
         kill -s KILL "$(program_under "$process")"
@@ -65,7 +65,7 @@ break_off() { # ROW WORDS KEY..
         kill -s STOP "$program"
         kill -s KILL "$(ps -o pid= --ppid "$process" | tr -d ' ')" "$program"
         # the watcher gives the terminal back
-        wait_for 150 shows_shell
+        wait_for shows_shell
     fi
     say clear
 }
@@ -78,8 +78,8 @@ program_under() { # SHELL
 # A scene is a chain of steps, of which the first that fails tells it; `scene` is its name.
 scene_recover_asks() {
     break_off '* 1:2' "$kept" x && say bidi-edit text && expect "$scene" 'an unfinished session from' && expect "$scene" 'keys typed: 1' && say what &&
-        wait_for 150 is_asked_again && terminal send-keys -t shell C-d && say 'echo status $?' && expect "$scene" 'status 2' && say clear && say bidi-edit text && expect "$scene" '[d]elete for good' && say delete &&
-        wait_for 150 has_row shell '- 1:1' && end_by_keys C-q && say 'ls state/bidi_edit | wc -l' && expect "$scene" 0
+        wait_for is_asked_again && terminal send-keys -t shell C-d && say 'echo status $?' && expect "$scene" 'status 2' && say clear && say bidi-edit text && expect "$scene" '[d]elete for good' && say delete &&
+        wait_for has_row shell '- 1:1' && end_by_keys C-q && say 'ls state/bidi_edit | wc -l' && expect "$scene" 0
 }
 
 is_asked_again() {
@@ -88,7 +88,7 @@ is_asked_again() {
 
 # A surviving host sees that all is saved.
 scene_all_is_saved() {
-    break_off '- 1:2 saved' 'the editor was ended by SIG' x C-s && say bidi-edit text && wait_for 150 has_row shell '- 1:1' &&
+    break_off '- 1:2 saved' 'the editor was ended by SIG' x C-s && say bidi-edit text && wait_for has_row shell '- 1:1' &&
         end_by_keys C-q && say 'ls state/bidi_edit | wc -l' && expect "$scene" 0
 }
 
@@ -99,32 +99,32 @@ asks_or_opened() {
 
 # Where the host had noted the save before it was killed, the text opens without a question.
 scene_all_was_saved() {
-    break_off '- 1:2 saved' '' x C-s && say bidi-edit text && wait_for 150 asks_or_opened || return 1
+    break_off '- 1:2 saved' '' x C-s && say bidi-edit text && wait_for asks_or_opened || return 1
     if has_row shell '- 1:1'; then
         end_by_keys C-q
         return
     fi
-    say recover && wait_for 150 has_row shell '- 1:1' && end_by_keys C-q &&
+    say recover && wait_for has_row shell '- 1:1' && end_by_keys C-q &&
         expect "$scene" 'text already contains everything that was typed in its last session'
 }
 
 scene_changed_by_another() {
     break_off '* 1:2' "$kept" x && echo other >"$shell/text" && say bidi-edit text && expect "$scene" '[d]elete for good' && say recover &&
-        wait_for 150 has_row shell '* 1:2 recovered beside: see the end' && end_by_keys C-s C-q && expect "$scene" 'recovered as text.recovered' &&
+        wait_for has_row shell '* 1:2 recovered beside: see the end' && end_by_keys C-s C-q && expect "$scene" 'recovered as text.recovered' &&
         say 'cat text text.recovered' && expect "$scene" xab && expect "$scene" other
 }
 
 scene_dropped() {
     open_shell
     say bidi-edit text
-    wait_for 150 has_row shell '- 1:1' && end_by_keys y C-q C-q && expect "$scene" 'the dropped changes can be recovered' &&
-        say clear && say bidi-edit --recover text && wait_for 150 has_row shell '* 1:2 recovered' && end_by_keys C-s C-q &&
+    wait_for has_row shell '- 1:1' && end_by_keys y C-q C-q && expect "$scene" 'the dropped changes can be recovered' &&
+        say clear && say bidi-edit --recover text && wait_for has_row shell '* 1:2 recovered' && end_by_keys C-s C-q &&
         say 'grep -c y text; ls state/bidi_edit | wc -l' && expect "$scene" 1 && expect "$scene" 0
 }
 
 # Whether the session has its text, which it gets beside the first painting.
 has_session() {
-    [ -n "$(find "$shell/state" -name path)" ]
+    grep -rqs '^text ' --include=about "$shell/state"
 }
 
 # A second editor on an open file asks first, and at no leaves the file to the other one.
@@ -132,7 +132,7 @@ scene_two_editors() {
     open_shell
     printf 'ab\n' >"$shell/other"
     say bidi-edit other
-    wait_for 150 has_row shell '- 1:1' && wait_for 150 has_session || return 1
+    wait_for has_row shell '- 1:1' && wait_for has_session || return 1
     terminal rename-session -t shell first
     open_shell
     say bidi-edit other

@@ -16,9 +16,9 @@ open_session() { # COMMAND..
     wait_for_more 0
 }
 
-# Waits for more output than SIZE bytes, ten seconds at most.
+# Waits for more output than SIZE bytes, a minute at most.
 wait_for_more() { # SIZE
-    for _ in $(seq 200); do
+    for _ in $(seq 1200); do
         [ "$(stat -c %s "$folder/out")" -le "$1" ] || return 0
         sleep 0.05
     done
@@ -190,12 +190,13 @@ check_changes_in_place() {
     way=beside
 }
 
-# Tears FILE by a save whose last call fails, and removes it. The next save creates it by a rename, and removes the backup.
+# Tears FILE by a save whose last calls fail, so that its old text cannot be put back, and removes it. The next save creates it by a rename,
+# and removes the backup.
 check_gone_when_torn() {
     begin_point 'a file that was torn and is gone'
     prepare plain
-    # the first two syncs are of the backup's draft and its folder, the third is of FILE
-    open_session strace -f -o "$folder/log" -e trace=fsync -e inject=fsync:error=EIO:when=3
+    # the first three syncs are of the backup's draft, of the record of steps and of their folder, the fourth is of FILE
+    open_session strace -f -o "$folder/log" -e trace=fsync -e inject=fsync:error=EIO:when=4+
     save_all
     grep -q INJECTED "$folder/log" || fails "the call was not met"
     [ -e "$backup" ] || fails "the backup is not there"

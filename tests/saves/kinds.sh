@@ -42,19 +42,20 @@ check_drafts() {
     same "what is there" "$(names)" 'links text'
 }
 
-# A name has 255 bytes at most, of which a backup needs three. Longer ones are refused at the opening.
+# A name has 255 bytes at most. A backup adds three, and has a shorter name where they are too many.
 check_names() {
     begin_kind 'long names'
-    long=$(printf '%0252d' 7)
-    prepare plain
-    mv "$kept" "$place/$long"
-    file=$place/$long kept=$place/$long
-    check_save '252 bytes' new env
-    mv "$kept" "${kept}8"
-    file=$place/${long}8 kept=$place/${long}8
-    put_old "$kept" 640
-    check_save '253 bytes' old env
-    same "what is there" "$(names | wc -w)" 2
+    for way in beside itself; do
+        for bytes in 252 255; do
+            prepare plain
+            long=$place/$(printf "%0${bytes}d" 7)
+            mv "$kept" "$long"
+            file=$long kept=$long
+            check_save "$bytes bytes, $way" new env
+            same "what is there" "$(names | wc -w)" 2
+        done
+    done
+    way=beside
 }
 
 # A save uses what is open, since a path may lead elsewhere the second time. It resolves FILE's path never and that of the folder once,
@@ -64,7 +65,8 @@ check_paths() {
     prepare plain
     check_save 'resolved in a save' new strace -f -o "$folder/log" -e trace=%file
     saver=$(sed -n 's/ .*renameat2.*//p' "$folder/log" | head -n 1)
-    grep -e "^$saver " "$folder/log" >"$folder/said"
+    # what readlink tells is no path that it resolves
+    grep -e "^$saver " "$folder/log" | grep -v readlink >"$folder/said"
     same "how often FILE's path is resolved" "$(grep -c -F -e "\"$file\"" "$folder/said")" 0
     same "how often the folder's path is resolved" "$(grep -c -F -e "\"$place\"" "$folder/said")" 1
     same "how often FILE's name is looked at" "$(grep -v -F -e renameat2 "$folder/said" | grep -c -F -e '"text"')" 2

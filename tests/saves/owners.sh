@@ -51,6 +51,10 @@ check_owners() {
         skip 'who is not root cannot be another user'
         return
     fi
+    if ! as_another_user "$folder/driver"; then
+        skip "another user has no access to $folder"
+        return
+    fi
     prepare owned
     chmod 4751 "$kept"
     mode=4751
@@ -134,6 +138,12 @@ check_disks() {
     check_save '40,000 bytes more on a disk of 64 KiB' old env
     same "what is there" "$(ls -A "$folder/disk")" text
     says 'no space'
+    way=in_place
+    head -c 70000 /dev/zero | tr '\0' b >"$folder/new"
+    check_save '70,000 bytes on a disk of 64 KiB, in place' old env
+    says 'no space'
+    check_no_backup
+    way=beside
     umount "$folder/disk" && mounted=''
 
     prepare plain

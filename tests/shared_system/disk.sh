@@ -53,11 +53,11 @@ open_on_full_disk() { # CHECK
     # a second for the recording to begin before the editor
     open_editor first 'sleep 1;' note
     record_editor first
-    wait_for 60 shows_in first '- 1:1'
-    wait_for 20 has_title_with first 'not kept'
+    wait_for shows_in first '- 1:1'
+    wait_for has_title_with first 'not kept'
     report "disk, $1: told in the title" $? "$(title_of first)"
     terminal send-keys -t first x
-    wait_for 60 shows_in first '* 1:2'
+    wait_for shows_in first '* 1:2'
 }
 
 # No session is begun: told before the screen changes, and nothing false at the end, by two Quits or a signal.
@@ -68,7 +68,7 @@ check_not_begun() {
     *) report 'disk, full: told before the screen changes' 1 "$(head -c 300 "$folder/output.first" | cat -v)" ;;
     esac
     terminal send-keys -t first C-q C-q
-    wait_for 60 shows_in first status
+    wait_for shows_in first status
     same 'disk, full: nothing is said to be kept' "$(terminal capture-pane -p -J -t first | grep -c 'can be recovered')" 0
     same 'disk, full: nothing stays there' "$(find "$folder/small" -mindepth 1 ! -name other)" "$folder/small/bidi_edit"
     close_editors first
@@ -101,17 +101,17 @@ check_begun_later() {
     open_on_full_disk 'room later' || return 0
     same 'disk, room later: nobody finds a part of the session' "$(find "$folder/small" -name path)" ''
     rm -f "$folder/small/other"
-    wait_for 40 has_title_without first 'not kept'
+    wait_for has_title_without first 'not kept'
     report 'disk, room later: the title tells nothing more' $? "$(title_of first)"
     terminal send-keys -t first y
-    wait_for 60 shows_in first '* 1:3'
+    wait_for shows_in first '* 1:3'
     kill_editor first
     close_editors first
     echo xyab >"$folder/expected"
     recover_from_small_disk 'room later'
     open_on_full_disk 'room later, no key' || return 0
     rm -f "$folder/small/other"
-    wait_for 40 has_title_without first 'not kept'
+    wait_for has_title_without first 'not kept'
     kill_editor first
     close_editors first
     echo xab >"$folder/expected"
@@ -119,7 +119,7 @@ check_begun_later() {
     open_on_full_disk 'room at the end' || return 0
     rm -f "$folder/small/other"
     terminal send-keys -t first y
-    wait_for 60 shows_in first '* 1:3'
+    wait_for shows_in first '* 1:3'
     kill -s TERM "$(editor_process)"
     expect_in first 'disk, room at the end: it is said' 'unsaved text is kept: '
     close_editors first
@@ -132,16 +132,16 @@ fill_under_editor() { # CHECK
     open_small_disk 256k || return 1
     rm -f note
     open_editor first '' note
-    wait_for 60 shows_in first '- 1:1'
+    wait_for shows_in first '- 1:1'
     terminal send-keys -t first a
-    wait_for 60 shows_in first '* 1:2'
+    wait_for shows_in first '* 1:2'
     record_editor first
     fill_small_disk
     # a hundred lines of 60 bytes, so that the cursor is in line 101 then
     awk 'BEGIN { for (i = 0; i < 100; i++) printf "%59s\n", "line " i }' >"$folder/letters"
     terminal load-buffer -b letters "$folder/letters"
     terminal paste-buffer -d -r -b letters -t first
-    wait_for 80 has_title_with first 'not kept'
+    wait_for has_title_with first 'not kept'
     report "disk, $1: told in the title" $? "$(title_of first)"
 }
 
@@ -169,20 +169,20 @@ check_filled_up() {
 check_room_again() {
     fill_under_editor 'room again' || return 0
     rm -f "$folder/small/other"
-    wait_for 40 has_title_without first 'not kept'
+    wait_for has_title_without first 'not kept'
     report 'disk, room again: the title tells nothing more' $? "$(title_of first)"
     terminal send-keys -t first z
-    wait_for 60 shows_in first '* 101:2'
+    wait_for shows_in first '* 101:2'
     fill_small_disk
     terminal load-buffer -b letters "$folder/letters"
     terminal paste-buffer -d -r -b letters -t first
-    wait_for 80 has_title_with first 'not kept'
+    wait_for has_title_with first 'not kept'
     report 'disk, room again: a second fault is told' $? "$(title_of first)"
     same 'disk, room again: by a second bell' "$(bells_of first)" 2
     rm -f "$folder/small/other"
-    wait_for 40 has_title_without first 'not kept'
+    wait_for has_title_without first 'not kept'
     terminal send-keys -t first y
-    wait_for 60 shows_in first '* 201:2'
+    wait_for shows_in first '* 201:2'
     kill_editor first
     close_editors first
     { printf a && cat "$folder/letters" && printf z && cat "$folder/letters" && printf y; } >"$folder/expected"
@@ -193,7 +193,7 @@ check_room_again() {
 check_told_again() {
     fill_under_editor 'told again' || return 0
     rm -f "$folder/small/other"
-    wait_for 40 has_title_without first 'not kept'
+    wait_for has_title_without first 'not kept'
     kill -s TERM "$(editor_process)"
     expect_in first 'disk, told again: what was typed is kept' 'unsaved text is kept: bidi-edit --recover note'
     same 'disk, told again: nothing of a fault' "$(terminal capture-pane -p -J -t first | grep -c 'the journal')" 0

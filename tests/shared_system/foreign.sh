@@ -35,11 +35,11 @@ check_changed_before_copy() {
     rm -rf "$folder/state"
     printf 'ab\n' | as_user tee note >/dev/null
     open_editor first "$(slow_reading 700000)" note
-    wait_for 60 shows_in first '- 1:1'
+    wait_for shows_in first '- 1:1'
     change_note
     terminal send-keys -t first y
-    wait_for 60 shows_in first '* 1:2'
-    wait_for 60 grep -q y "$(session_of_check)/journal"
+    wait_for shows_in first '* 1:2'
+    wait_for grep -q y "$(session_of_check)/journal"
     same 'foreign, before the copy: the text as it was opened is kept' "$(cat "$(session_of_check)/text")" ab
     has_title_without first 'not kept'
     report 'foreign, before the copy: the title tells nothing else' $? "$(title_of first)"
@@ -50,11 +50,11 @@ check_changed_before_copy() {
 check_changed_after_answer() {
     leave_session note
     open_editor first "$(slow_opening 1000000)" note
-    wait_for 60 shows_in first '[d]elete for good'
+    wait_for shows_in first '[d]elete for good'
     say_in first recover
-    wait_for 60 has_program_of_check
+    wait_for has_program_of_check
     change_note
-    wait_for 60 shows_in first '* 1:2'
+    wait_for shows_in first '* 1:2'
     save_twice 'after the answer' xab
 }
 
@@ -65,7 +65,7 @@ has_program_of_check() {
 check_changed_while_open() {
     leave_session note
     open_editor first '' --recover note
-    wait_for 60 shows_in first '* 1:2'
+    wait_for shows_in first '* 1:2'
     change_note
     save_twice 'after the recovery' xab
 }
@@ -75,14 +75,14 @@ check_unchanged() {
     rm -rf "$folder/state"
     printf 'ab\n' | as_user tee note >/dev/null
     open_editor first '' note
-    wait_for 60 shows_in first '- 1:1'
+    wait_for shows_in first '- 1:1'
     terminal send-keys -t first x C-s
-    wait_for 60 shows_in first saved
+    wait_for shows_in first saved
     terminal send-keys -t first y
-    wait_for 60 shows_in first '* 1:3'
+    wait_for shows_in first '* 1:3'
     kill_editor first
     open_editor first '' --recover note
-    wait_for 60 shows_in first '* 1:3'
+    wait_for shows_in first '* 1:3'
     terminal send-keys -t first C-s
     expect_in first 'foreign, a session that saved: the first save' 'saved'
     same 'foreign, a session that saved: FILE' "$(cat note) $(echo note*)" 'xyab note'
@@ -99,15 +99,15 @@ check_exchanged_folder() {
     as_user mkdir inner elsewhere
     printf 'ab\n' | as_user tee inner/note elsewhere/note >/dev/null
     open_editor first '' inner/note
-    wait_for 60 shows_in first '- 1:1'
+    wait_for shows_in first '- 1:1'
     terminal send-keys -t first x
-    wait_for 60 shows_in first '* 1:2'
+    wait_for shows_in first '* 1:2'
     # two seconds for the exchange, by the host's child that saves
     strace -qq -f -p "$(editor_process)" -e trace=fsync,fdatasync -e inject=fsync,fdatasync:delay_enter=2000000 -o "$folder/trace" 2>/dev/null &
     tracer=$!
-    wait_for 30 is_traced
+    wait_for is_traced
     terminal send-keys -t first C-s
-    wait_for 30 has_saver
+    wait_for has_saver
     # the draft is written by then
     sleep 0.5
     mv inner moved

@@ -94,7 +94,7 @@ has_saver() {
 inject() { # CALLS WHAT
     strace -qq -f -p "$(editor_process)" -P "$folder/files/note" -e "trace=$1" -e "inject=$1:$2" -o "$folder/trace" 2>/dev/null &
     tracer=$!
-    wait_for 30 is_traced
+    wait_for is_traced
 }
 
 # Lets the calls go on as ever.
@@ -120,9 +120,9 @@ open_linked() {
     printf 'ab\n' | as_user tee note >/dev/null
     as_user ln note note.link
     open_editor first '' note
-    wait_for 60 shows_in first '- 1:1'
+    wait_for shows_in first '- 1:1'
     terminal send-keys -t first x
-    wait_for 60 shows_in first '* 1:2'
+    wait_for shows_in first '* 1:2'
 }
 
 # Kills all processes while a save is at its first of these calls, which does nothing then.
@@ -130,17 +130,17 @@ cut_off_save() { # CALLS
     open_linked
     inject "$1" delay_enter=20000000:when=1
     terminal send-keys -t first C-s
-    wait_for 30 has_saver || report "in place, killed at $1: a save begins" 1 'there is no child that saves'
+    wait_for has_saver || report "in place, killed at $1: a save begins" 1 'there is no child that saves'
     # it is at the call by then
     sleep 0.7
     kill_editor first
     stop_injecting
     # its watcher, too, has ended then
-    wait_for 60 is_unlocked
+    wait_for is_unlocked
 }
 
 is_unlocked() {
-    flock -n "$(session_of_check)/lock" true
+    flock -n "$(session_of_check)" true
 }
 
 # Checks the next start's message about an interrupted save, and that FILE is complete. COUNT is how often it says that the text
@@ -155,7 +155,7 @@ check_cut_off() { # CALLS COUNT TEXT
     same "in place, killed at $1: FILE before the answer" "$(cat note note.link | tr '\n' ' ')" "$3 $3 "
     say_in first recover
     if [ "$3" = xab ]; then
-        wait_for 60 shows_in first '- 1:1'
+        wait_for shows_in first '- 1:1'
         terminal send-keys -t first C-q
         expect_in first "in place, killed at $1: FILE has all" 'note already contains everything that was typed in its last session'
     else
@@ -174,7 +174,7 @@ check_killed_saver() {
     stop_injecting
     # FILE was written, which counts as a change once
     terminal send-keys -t first y C-s
-    wait_for 60 shows_in first 'file changed on disk'
+    wait_for shows_in first 'file changed on disk'
     terminal send-keys -t first C-s
     expect_in first 'in place, the child killed: the next save' 'saved'
     same 'in place, the child killed: FILE is whole' "$(cat note note.link | tr '\n' ' ')" 'xyab xyab '
@@ -189,11 +189,11 @@ check_killed_program() {
     open_linked
     inject write,pwrite64,writev signal=KILL:when=1
     terminal send-keys -t first C-s
-    wait_for 60 shows_in first 'save failed'
+    wait_for shows_in first 'save failed'
     stop_injecting
     kill -s KILL "$(program_of_check)"
     expect_in first 'in place, the program killed: it is said' 'a save of note was interrupted; its whole text has been restored'
-    wait_for 60 shows_in first status
+    wait_for shows_in first status
     same 'in place, the program killed: FILE is whole' "$(cat note note.link | tr '\n' ' ')" 'xab xab '
     same 'in place, the program killed: no session stays, as nothing is unsaved' "$(ls -A "$folder/state/bidi_edit")" ''
     close_editors first
@@ -207,7 +207,7 @@ check_written_since() {
     expect_in first 'in place, written since: the session goes on beside' '* 1:2'
     same 'in place, written since: FILE stays' "$(cat note)" 'of another'
     terminal send-keys -t first C-s
-    wait_for 60 shows_in first saved
+    wait_for shows_in first saved
     same 'in place, written since: what was typed' "$(cat note.recovered)" xab
     close_editors first
 }
@@ -215,12 +215,12 @@ check_written_since() {
 # A session of another machine may still be saving there.
 check_cut_off_elsewhere() {
     cut_off_save write,pwrite64,writev
-    echo '1 elsewhere 11111111-1111' | as_user tee "$(session_of_check)/process" >/dev/null
+    python3 -B "$top/tests/host/about.py" "$(session_of_check)" process '1 elsewhere 11111111-1111'
     open_editor first '' --recover note
     expect_in first 'in place, cut off on another host: it is asked about' 'Has it ended'
     same 'in place, cut off on another host: FILE before the answer' "$(stat -c %s note)" 0
     say_in first yes
-    wait_for 60 shows_in first '- 1:1'
+    wait_for shows_in first '- 1:1'
     terminal send-keys -t first C-q
     expect_in first 'in place, cut off on another host: its text is put back' 'its whole text has been restored'
     same 'in place, cut off on another host: FILE' "$(cat note note.link | tr '\n' ' ')" 'xab xab '
@@ -233,12 +233,12 @@ check_save_that_goes_on() {
     # the write to FILE, which is empty by then, takes eight seconds
     inject write,pwrite64,writev delay_enter=8000000:when=1
     terminal send-keys -t first C-s
-    wait_for 30 is_empty note
+    wait_for is_empty note
     report 'in place, a save that goes on: FILE is torn' $? "$(cat note)"
     open_editor second '' note.link
-    wait_for 30 shows_in second ' 1:1'
+    wait_for shows_in second ' 1:1'
     same 'in place, a save that goes on: FILE and its text are left alone' "$(stat -c %s note) $(find "$folder/state" -name mark | wc -l)" '0 1'
-    wait_for 150 shows_in first saved
+    wait_for shows_in first saved
     same 'in place, a save that goes on: FILE then' "$(cat note note.link | tr '\n' ' ')" 'xab xab '
     close_editors first second
 }
@@ -286,7 +286,7 @@ check_failed_end() {
     open_linked
     inject write,pwrite64,writev error=EIO
     terminal send-keys -t first C-s
-    wait_for 60 shows_in first 'save failed'
+    wait_for shows_in first 'save failed'
     stop_injecting
     terminal send-keys -t first C-q C-q
     expect_in first 'in place, no save to the end: it is said' 'a save of note was interrupted; its whole text has been restored'

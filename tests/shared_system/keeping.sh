@@ -10,11 +10,11 @@ check_list() {
     has 'keeping, --recover alone: file and keys' "$(cat "$folder/output")" "keys: 1  KB: "
     has 'keeping, --recover alone: the file' "$(grep -c "$folder/files/note\$" "$folder/output") $(date +%Y)" "1 $(cut -c 1-4 "$folder/output" | head -n 1)"
     open_editor first '' --recover note
-    wait_for 60 shows_in first '* 1:2'
+    wait_for shows_in first '* 1:2'
     as_user "$host" --recover >"$folder/output" 2>&1 </dev/null
     has 'keeping, --recover alone: one that goes on' "$(grep "$folder/files/note" "$folder/output")" 'note (open now)'
     terminal send-keys -t first C-q C-q
-    wait_for 60 shows_in first status
+    wait_for shows_in first status
     as_user "$host" --recover >"$folder/output" 2>&1 </dev/null
     has 'keeping, --recover alone: one that was dropped' "$(grep "$folder/files/note" "$folder/output")" 'note (dropped)'
     close_editors first
@@ -25,9 +25,9 @@ check_list() {
 check_no_session() {
     rm -rf "$folder/state"
     open_editor first '' -n note
-    wait_for 60 shows_in first '- 1:1'
+    wait_for shows_in first '- 1:1'
     terminal send-keys -t first secret
-    wait_for 60 shows_in first '* 1:7'
+    wait_for shows_in first '* 1:7'
     same 'keeping, -n: no file is made' "$(ls -A "$folder/state" 2>/dev/null)$(ls -A)" ''
     terminal send-keys -t first C-q C-q
     expect_in first 'keeping, -n: it is said' 'unsaved text is not kept, since -n was given'
@@ -35,56 +35,30 @@ check_no_session() {
     close_editors first
 }
 
-# A FILE in memory, whose text must not reach a disk.
+# A FILE in memory, whose text must not reach a disk: no session, and that is told. The check's own state folder may be in memory too.
 check_memory() {
     mkdir "$folder/memory"
-    if ! mount -t tmpfs -o size=1m none "$folder/memory" 2>/dev/null; then
+    if [ "$(id -u)" != 0 ] || ! lasting=$(mktemp -d /var/lib/bidi-edit-check.XXXXXX 2>/dev/null) || [ "$(stat -f -c %T "$lasting")" = tmpfs ] ||
+        ! mount -t tmpfs -o size=1m none "$folder/memory" 2>/dev/null; then
         skip 'keeping, in memory' 'no file system in memory can be mounted'
         return
     fi
     mounted="$mounted $folder/memory"
-    chown "$user" "$folder/memory"
-    rm -rf "$folder/state"
+    chown "$user" "$folder/memory" "$lasting"
+    usual_state_home=$XDG_STATE_HOME
+    export XDG_STATE_HOME="$lasting"
     printf 'ab\n' | as_user tee "$folder/memory/note" >/dev/null
     open_editor first '' "$folder/memory/note"
-    wait_for 60 shows_in first '- 1:1'
+    wait_for shows_in first '- 1:1'
     terminal send-keys -t first x
-    wait_for 60 shows_in first '* 1:2'
-    same 'keeping, of a FILE in memory: nothing in the state folder' "$(ls -A "$folder/state" 2>/dev/null)" ''
-    same 'keeping, of a FILE in memory: its session is there' "$(cat "$folder/memory/bidi_edit.$user"/[0-9]*/journal)" x
-    kill_editor first
-    as_user "$host" --recover >"$folder/output" 2>&1 </dev/null
-    has 'keeping, of a FILE in memory: it is listed' "$(cat "$folder/output")" "$folder/memory/note"
-    open_editor first '' "$folder/memory/note"
-    expect_in first 'keeping, of a FILE in memory: it is found' 'an unfinished session'
-    say_in first recover
-    expect_in first 'keeping, of a FILE in memory: it is recovered' '* 1:2'
+    wait_for shows_in first '* 1:2'
+    same 'keeping, of a FILE in memory: no session' "$(find "$lasting" -type f)$(ls -A "$folder/memory")" note
+    terminal send-keys -t first C-q C-q
+    expect_in first 'keeping, of a FILE in memory: it is told' 'is in memory, and no disk may have its text'
     close_editors first
     umount "$folder/memory"
     mounted=${mounted%" $folder/memory"}
-    rmdir "$folder/memory"
-}
-
-# A FILE in a folder for temporary files, with a permanent state folder: its session is in a folder for temporary files too.
-check_passing_file() {
-    if [ "$(id -u)" != 0 ] || ! lasting=$(mktemp -d /var/lib/bidi-edit-check.XXXXXX 2>/dev/null); then
-        skip 'keeping, of a temporary FILE' 'no folder that lasts can be made'
-        return
-    fi
-    chown "$user" "$lasting"
-    usual_state_home=$XDG_STATE_HOME
-    export XDG_STATE_HOME="$lasting"
-    open_editor first '' note
-    wait_for 60 shows_in first '- 1:1'
-    terminal send-keys -t first x
-    wait_for 60 shows_in first '* 1:2'
-    same 'keeping, of a temporary FILE: nothing in the state folder' "$(ls -A "$lasting")" ''
-    same 'keeping, of a temporary FILE: its session is there' "$(cat "$folder/private/bidi_edit.$user"/[0-9]*/journal /tmp/"bidi_edit.$user"/[0-9]*/journal 2>/dev/null)" x
-    terminal send-keys -t first C-s C-q
-    wait_for 60 shows_in first status
-    (cd /tmp && rmdir "bidi_edit.$user") 2>/dev/null
-    close_editors first
-    rm -rf "$lasting" note
+    rm -rf "$folder/memory" "$lasting"
     export XDG_STATE_HOME="$usual_state_home"
 }
 
@@ -96,17 +70,19 @@ check_syncs() {
     fi
     rm -rf "$folder/state"
     open_editor first "strace -f -qq -y -A -o '$folder/synced' -e trace=fsync,fdatasync" note
-    wait_for 60 shows_in first '- 1:1'
-    # the folder of sessions, and last the session's `path`
-    wait_for 30 grep -q bidi_edit "$folder/synced"
-    wait_for 30 grep -q '/path>' "$folder/synced"
+    wait_for shows_in first '- 1:1'
+    # the session's facts, its folder, and the folder of sessions
+    wait_for grep -q '/about.new>' "$folder/synced"
+    wait_for grep -q '/bidi_edit>' "$folder/synced"
     report 'keeping, on the disk before the first key' $? "$(cat "$folder/synced")"
     terminal send-keys -t first x
-    wait_for 30 shows_in first '* 1:2'
+    wait_for shows_in first '* 1:2'
     : >"$folder/synced"
     terminal send-keys -t first y
-    wait_for 20 grep -q '/journal>' "$folder/synced"
+    wait_for grep -q '/journal>' "$folder/synced"
     report 'keeping, on the disk when typing pauses' $? 'the journal is not put there'
+    # the facts follow the journal
+    sleep 3
     : >"$folder/synced"
     # longer than the pause after which the journal is put there
     sleep 2
@@ -120,6 +96,5 @@ check_keeping() {
     check_list
     check_no_session
     check_memory
-    check_passing_file
     check_syncs
 }

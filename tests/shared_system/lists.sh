@@ -35,11 +35,11 @@ save_a_letter() { # FILE WORD..
     name=$1
     shift
     open_editor first '' "$@" "$name"
-    wait_for 60 shows_in first '- 1:1'
+    wait_for shows_in first '- 1:1'
     terminal send-keys -t first x C-s
-    wait_for 60 shows_in first saved
+    wait_for shows_in first saved
     terminal send-keys -t first C-q
-    wait_for 60 shows_in first status
+    wait_for shows_in first status
 }
 
 # FILE has a list, or its folder passes one on: a folder `common` of the user's. The lists are words of setfacl, empty for none.

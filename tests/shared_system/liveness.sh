@@ -11,26 +11,26 @@ check_other_namespace() {
     fi
     rm -rf "$folder/state"
     open_editor first 'unshare -p -f --mount-proc' note
-    wait_for 60 shows_in first '- 1:1'
+    wait_for shows_in first '- 1:1'
     terminal send-keys -t first x
-    wait_for 60 shows_in first '* 1:2'
+    wait_for shows_in first '* 1:2'
     open_editor second '' note
     expect_in second 'liveness, in another process namespace' 'note is already open in another window of yours'
     say_in second no
     expect_in second 'liveness, in another process namespace: no' 'status 2'
     same 'liveness, its session stays' "$(cat "$(session_of_check)/journal")" x
     terminal send-keys -t first y C-s
-    wait_for 30 shows_in first saved
+    wait_for shows_in first saved
     same 'liveness, its keys are saved' "$(cat note)" xy
     close_editors first second
     rm -f note
 }
 
-# The session's file `process` names another machine, where locks and processes cannot be seen.
+# The session's facts name another machine, where locks and processes cannot be seen.
 check_other_host() {
     leave_session note
     session=$(session_of_check)
-    echo '1 elsewhere 11111111-1111' | as_user tee "$session/process" >/dev/null
+    python3 -B "$top/tests/host/about.py" "$session" process '1 elsewhere 11111111-1111'
     open_editor second '' note
     expect_in second 'liveness, on another host' 'may be open in another window of yours (process 1 on elsewhere'
     say_in second no
@@ -47,7 +47,7 @@ check_other_host() {
 check_two_starts() {
     leave_session note
     open_editor first '' note
-    wait_for 60 shows_in first '[d]elete for good'
+    wait_for shows_in first '[d]elete for good'
     open_editor second '' note
     expect_in second 'liveness, a start while another one asks' 'note is already open in another window of yours'
     say_in first recover
@@ -55,7 +55,7 @@ check_two_starts() {
     say_in second no
     expect_in second 'liveness, a start while another one asks: no' 'status 2'
     terminal send-keys -t first y
-    wait_for 30 shows_in first '* 1:3'
+    wait_for shows_in first '* 1:3'
     # after the bytes of sizes and notices, which end in t and ~
     same 'liveness, both keys of the first are kept' "$(sed -e 's/.*[t~]//' "$(session_of_check)/journal")" y
     close_editors first second
@@ -67,9 +67,9 @@ check_unreaped() {
     printf 'ab\n' >note
     [ "$user" = "$(id -u)" ] || chown "$user:$user" note
     open_editor first 'f() { "$@" <>/dev/tty & exec sleep 600; }; f' note
-    wait_for 60 shows_in first '- 1:1'
+    wait_for shows_in first '- 1:1'
     terminal send-keys -t first x
-    wait_for 60 shows_in first '* 1:2'
+    wait_for shows_in first '* 1:2'
     kill -s KILL "$(editor_process)"
     # its watcher and program end
     sleep 1
@@ -82,12 +82,12 @@ check_unreaped() {
 check_changed_meanwhile() {
     leave_session note
     open_editor second '' note
-    wait_for 60 shows_in second '[d]elete for good'
+    wait_for shows_in second '[d]elete for good'
     echo other | as_user tee note >/dev/null
     say_in second recover
-    wait_for 60 shows_in second '* 1:2'
+    wait_for shows_in second '* 1:2'
     terminal send-keys -t second C-s
-    wait_for 30 shows_in second saved
+    wait_for shows_in second saved
     same 'liveness, FILE that changes before the answer' "$(cat note) $(cat note.recovered 2>&1)" 'other xab'
     close_editors second
 }
@@ -96,13 +96,13 @@ check_changed_meanwhile() {
 check_new_session() {
     rm -rf "$folder/state"
     open_editor first '' note
-    wait_for 60 shows_in first '- 1:1'
+    wait_for shows_in first '- 1:1'
     open_editor second '' note
     expect_in second 'liveness, a session without a key' 'note is already open in another window of yours'
     say_in second no
-    wait_for 30 shows_in second 'status 2'
+    wait_for shows_in second 'status 2'
     terminal send-keys -t first x
-    wait_for 30 shows_in first '* 1:2'
+    wait_for shows_in first '* 1:2'
     same 'liveness, its first key is kept' "$(cat "$(session_of_check)/journal")" x
     close_editors first second
     rm -f note

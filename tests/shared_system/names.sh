@@ -172,7 +172,7 @@ exit 1
 END
     chmod 755 "$program"
     start 8 60 "$recorder" "$name"
-    wait_for 50 has_ended
+    wait_for has_ended
     # shellcheck disable=SC2020
     same 'names, the title' "$(LC_ALL=C tr '\033\007' '\n\n' <"$folder/output" | LC_ALL=C grep -a '^]2;' | head -n 1)" "]2;\$'$1' - ^S save ^Q quit F1 keys"
     is_harmless "$folder/errors"

@@ -9,7 +9,7 @@
 make_source() {
     source=$folder/source prefix=$folder/prefix
     mkdir -p "$source/host/out" "$source/tests"
-    cp -R "$top/bidi-edit" "$top/data" "$top/tools" "$top/docs" "$source/"
+    cp -R "$top/bidi-edit" "$top/data" "$top/tools" "$top/docs" "$top/NOTICE" "$top/CHANGELOG.md" "$top/crates.txt" "$source/"
     cp "$top/tests/built.sh" "$top/tests/report.sh" "$source/tests/"
     cp "$top/host/build.sh" "$top/host/words.h" "$source/host/"
     # the built host is newer
@@ -108,9 +108,13 @@ check_removal() {
     installs --uninstall "$prefix"
     same 'packages, taken away: status' "$status" 0
     same 'packages, taken away: all is as before' "$(tree_of "$prefix")" "$before"
-    installs --uninstall "$prefix"
+    installs "$prefix" --uninstall
     same 'packages, taken away twice: status' "$status" 1
     same 'packages, taken away twice: all is as before' "$(tree_of "$prefix")" "$before"
+    installs "$prefix"
+    installs "$prefix" --uninstall
+    same 'packages, taken away, the option last: status' "$status" 0
+    same 'packages, taken away, the option last: all is as before' "$(tree_of "$prefix")" "$before"
     installs "$prefix"
     as_user sh -c 'echo other >"$1"; echo other >"$2"' sh "$prefix/bin/bidi-edit" "$prefix/lib/bidi_edit/mine"
     installs --uninstall "$prefix"
@@ -142,30 +146,34 @@ check_newer_version() {
     rm -rf "$prefix"
 }
 
-# Makes a folder of all system commands except those that only the checks of make-deb.sh use.
-make_commands() {
-    mkdir "$folder/commands"
-    for place in /usr/bin /bin /usr/sbin /sbin; do ln -s "$place"/* "$folder/commands/" 2>/dev/null; done
-    rm -f "$folder/commands/lintian" "$folder/commands/tmux"
+# An installation says how it is started: by its name or by its path.
+check_path() {
+    installs "$prefix"
+    same 'packages, not on PATH' "$(sed 's/:.*PATH=/: PATH=/' "$folder/said" | paste -s -d '|')" \
+        "$prefix/bin/bidi-edit|its folder is not on PATH: PATH=\$PATH:$prefix/bin"
+    as_user env PATH="$prefix/bin:$PATH" sh "$source/tools/install.sh" "$prefix/" >"$folder/said" 2>&1
+    same 'packages, on PATH' "$(tail -n 1 "$folder/said")" 'bidi-edit FILE starts it'
+    as_user mkdir "$folder/private/other"
+    as_user cp "$prefix/bin/bidi-edit" "$folder/private/other/bidi-edit"
+    as_user env PATH="$folder/private/other:$prefix/bin:$PATH" sh "$source/tools/install.sh" "$prefix" >"$folder/said" 2>&1
+    same 'packages, behind another on PATH' "$(tail -n 1 "$folder/said")" "its folder is on PATH, but another bidi-edit comes first: $folder/private/other/bidi-edit"
+    as_user rm -r "$folder/private/other"
+    as_user env -u HOME sh "$source/tools/install.sh" >"$folder/said" 2>&1
+    same 'packages, neither HOME nor PREFIX' "$? $(cat "$folder/said")" '1 install.sh: HOME is not set: name a PREFIX'
+    rm -rf "$prefix"
 }
 
-# make-deb.sh without the tools of its checks: what the package has, and that nothing else stays.
+# make-deb.sh takes programs that are built here only if they are proved.
 check_deb() {
     command -v dpkg-deb >/dev/null || {
         skip 'packages, deb' 'there is no dpkg-deb'
         return
     }
-    make_commands
-    as_user mkdir "$folder/made" 2>/dev/null
-    as_user env PATH="$folder/commands" TMPDIR="$folder/private" sh "$source/tools/make-deb.sh" "$folder/made" >"$folder/said" 2>&1
-    same 'packages, deb: status' "$?" 0
-    has 'packages, deb: its own checks' "$(tail -n 1 "$folder/said")" ' 0 failed, '
-    same 'packages, deb: what is made' "$(cd "$folder/made" && echo *)" "bidi-edit_${version}_amd64.deb bidi-edit_${version}_amd64.tar.gz"
-    same 'packages, deb: what stays' "$(ls -A "$folder/private")" ''
-    dpkg-deb -e "$folder/made/bidi-edit_${version}_amd64.deb" "$folder/control" 2>/dev/null
-    same 'packages, deb: editor' "$(grep -c -e 'update-alternatives --install /usr/bin/editor editor /usr/bin/bidi-edit' -e '--slave .*/bidi-edit.1.gz$' "$folder/control/postinst" 2>/dev/null)" 2
-    same 'packages, deb: no longer editor' "$(grep -c 'update-alternatives --remove editor /usr/bin/bidi-edit' "$folder/control/prerm" 2>/dev/null)" 1
-    rm -rf "$folder/made" "$folder/control" "$folder/commands"
+    as_user sh -c 'echo "# more" >>"$1"' sh "$source/crates/bidi_print/out/bidi_print"
+    as_user env TMPDIR="$folder/private" sh "$source/tools/make-deb.sh" "$folder/made" >"$folder/said" 2>&1
+    same 'packages, deb: status' "$?" 1
+    has 'packages, deb: what is told' "$(cat "$folder/said")" 'crates/bidi_print/out/bidi_print is not what its stamp says: rt run in crates/bidi_print builds it anew'
+    same 'packages, deb: what stays' "$(ls -A "$folder/private" "$folder/made" 2>/dev/null)" "$folder/private:"
 }
 
 check_packages() {
@@ -178,6 +186,7 @@ check_packages() {
     check_starts_meanwhile
     check_removal
     check_newer_version
+    check_path
     check_deb
     rm -rf "$source"
 }

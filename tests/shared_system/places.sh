@@ -15,10 +15,10 @@ passes_over() { # NAME TMPDIR
     setup="$(own_folders) TMPDIR='$2'"
     before=$(things_in /tmp "$2")
     start 8 60 "$recorder" kept
-    wait_for 50 test -e "$folder/record"
+    wait_for test -e "$folder/record"
     same "places, $1: what is typed is kept" "$(cat "$folder"/state/bidi_edit/[0-9]*/journal 2>/dev/null)" x
     type_keys C-q
-    finish "places, $1" 7 50
+    finish "places, $1" 7
     same "places, $1: nothing is told of it" "$(grep -c TMPDIR "$folder/errors")" 0
     same "places, $1: what is made in folders for temporary files" "$(things_in /tmp "$2")" "$before"
     setup=''
@@ -70,11 +70,11 @@ unmount_small() {
 check_state_home() {
     setup="$(own_folders) XDG_STATE_HOME=relative"
     start 8 60 "$recorder" f
-    wait_for 50 test -e "$folder/record"
+    wait_for test -e "$folder/record"
     same 'places, a relative state folder: none there' "$(ls -d "$folder/files/relative" 2>/dev/null)" ''
     same 'places, a relative state folder: where the session is' "$(find "$folder/home/.local/state/bidi_edit" -mindepth 1 -maxdepth 1 | wc -l)" 1
     type_keys C-q
-    finish 'places, a relative state folder' 7 50
+    finish 'places, a relative state folder' 7
     same 'places, a relative state folder: what is told' "$(paste -s -d '|' "$folder/errors")" \
         'bidi-edit: XDG_STATE_HOME is ignored, since relative is not an absolute path: ~/.local/state is used instead|bidi_edit: output failed'
     setup=''
@@ -155,7 +155,7 @@ check_lock() {
     as_user touch "$kit/slow"
     as_user env PATH="$kit:$PATH" sh "$clone/tools/launcher/proving/prove.sh" "$clone" bidi_edit >"$folder/first" 2>&1 &
     first=$!
-    wait_for 50 has_begun
+    wait_for has_begun
     prove
     same 'places, a second start' "$status" 1
     has 'places, a second start: what is told' "$(last_said)" ' is already building the editor: wait for it'
@@ -198,7 +198,7 @@ check_stale_number() {
     # shellcheck disable=SC2016
     as_user sh -c 'for file; do echo $$ >"$file"; done; exec sleep 60' sh "$clone/out/proving/process" "$clone/out/proving.lock" 2>/dev/null &
     job=$!
-    wait_for 20 test -s "$clone/out/proving.lock"
+    wait_for test -s "$clone/out/proving.lock"
     other=$(cat "$clone/out/proving.lock")
     prove
     same 'places, a number that another process has' "$status" 0
@@ -212,7 +212,7 @@ check_stale_number() {
 start_there() { # NAME STATUS VARIABLE..
     setup="$(own_folders) PATH='$kit':\$PATH ${3:-}"
     start 8 100 "$clone/bidi-edit" f
-    finish "places, $1" "$2" 50
+    finish "places, $1" "$2"
     setup=''
 }
 

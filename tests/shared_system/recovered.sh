@@ -7,9 +7,9 @@
 spoil_session() { # ANSWER
     leave_session note
     session=$(session_of_check)
-    printf 'a\377\n' | as_user tee "$session/text" >/dev/null
+    printf 'a\377\n' | python3 -B "$top/tests/host/about.py" "$session" text
     open_editor first '' note
-    wait_for 60 shows_in first '[d]elete for good'
+    wait_for shows_in first '[d]elete for good'
     say_in first recover
     expect_in first "recovered, a session that cannot be replayed ($1)" 'could not be replayed'
     expect_in first "recovered, what is offered ($1)" '(open, keep)?'
@@ -26,14 +26,14 @@ check_unreplayed() {
     expect_in first 'recovered, keep: FILE is opened' '- 1:1'
     same 'recovered, keep: the parts' "$(cat note.session-journal) $(od -An -c note.session-text | tr -d ' ')" 'x a377\n'
     terminal send-keys -t first C-q
-    wait_for 60 shows_in first 'status 0'
+    wait_for shows_in first 'status 0'
     expect_in first 'recovered, keep: their names are told' 'note.session-journal: the keys'
     same 'recovered, keep: no session stays' "$(ls -A "$folder/state/bidi_edit")" ''
     same 'recovered, keep: no one else reads them' "$(stat -c %a note.session-journal)" 600
     close_editors first
     rm -f note.session-*
     spoil_session drop
-    wait_for 60 shows_twice '(open, keep)?'
+    wait_for shows_twice '(open, keep)?'
     report 'recovered, drop: it is no answer, and is asked again' $? "$(terminal capture-pane -p -J -t first | grep . | tr '\n' '|')"
     same 'recovered, drop: the session stays' "$(cat "$session/journal")" x
     close_editors first
@@ -49,18 +49,18 @@ check_beside() {
     leave_session note
     echo other | as_user tee note >/dev/null
     open_editor first '' --recover note
-    wait_for 60 shows_in first '* 1:2'
+    wait_for shows_in first '* 1:2'
     terminal send-keys -t first y
-    wait_for 60 shows_in first '* 1:3'
+    wait_for shows_in first '* 1:3'
     kill_editor first
     open_editor first '' note
     expect_in first 'recovered, beside FILE and not saved: found under FILE' 'note has an unfinished session'
     say_in first recover
     expect_in first 'recovered, beside FILE and not saved: all keys' '* 1:3'
     terminal send-keys -t first C-s
-    wait_for 30 shows_in first saved
+    wait_for shows_in first saved
     terminal send-keys -t first z
-    wait_for 30 shows_in first '* 1:4'
+    wait_for shows_in first '* 1:4'
     same 'recovered, beside FILE: both files' "$(cat note note.recovered | tr '\n' ' ')" 'other xyab '
     kill_editor first
     open_editor first '' note
@@ -71,7 +71,7 @@ check_beside() {
     say_in first recover
     expect_in first 'recovered, beside FILE and saved: goes on there' '* 1:4'
     terminal send-keys -t first C-s
-    wait_for 30 shows_in first saved
+    wait_for shows_in first saved
     same 'recovered, beside FILE: both files at the end' "$(cat note note.recovered | tr '\n' ' ') $(echo note*)" 'other xyzab  note note.recovered'
     close_editors first
     rm -f note*
@@ -83,17 +83,17 @@ check_mode() {
     printf 'ab\n' | as_user tee note >/dev/null
     chmod 600 note
     open_editor first '' note
-    wait_for 60 shows_in first '- 1:1'
+    wait_for shows_in first '- 1:1'
     terminal send-keys -t first x
-    wait_for 60 shows_in first '* 1:2'
+    wait_for shows_in first '* 1:2'
     kill_editor first
     as_user "$host" --recover --to other note >/dev/null
     same 'recovered, --to: text and permissions' "$(cat other) $(stat -c %a other)" 'xab 600'
     rm -f note
     open_editor first '' --recover note
-    wait_for 60 shows_in first '* 1:2'
+    wait_for shows_in first '* 1:2'
     terminal send-keys -t first C-s
-    wait_for 30 shows_in first saved
+    wait_for shows_in first saved
     same 'recovered, a FILE that is gone: text and permissions' "$(cat note) $(stat -c %a note)" 'xab 600'
     close_editors first
     rm -f note other
@@ -111,9 +111,9 @@ check_swept() {
     as_user mkdir "$folder/state/bidi_edit/20200101000000.oldest" "$folder/state/bidi_edit/.replay.oldest" "$folder/state/bidi_edit/20200101000000.newest"
     as_user touch -d '3 hours ago' "$folder/state/bidi_edit/20200101000000.oldest" "$folder/state/bidi_edit/.replay.oldest"
     open_editor first '' note
-    wait_for 60 shows_in first '- 1:1'
+    wait_for shows_in first '- 1:1'
     terminal send-keys -t first C-q
-    wait_for 60 shows_in first status
+    wait_for shows_in first status
     same 'recovered, what was only begun is swept' "$(ls -A "$folder/state/bidi_edit")" 20200101000000.newest
     close_editors first
 }

@@ -10,7 +10,7 @@
 # from 1, for checks that are the same in each. A part appends its mounts to `mounted`. open_editor opens several editors that
 # share a state folder.
 #
-# Waits are in tenths of a second. Of a session the last row tells: `- 1:1` that the editor is open and nothing is changed, `*
+# Of a session the last row tells: `- 1:1` that the editor is open and nothing is changed, `*
 # 1:2` that one letter was typed in the first line.
 
 # Installs the copy, once, before any round. Sets `installed`, its folder, and `host`.
@@ -85,10 +85,10 @@ open_editor() { # NAME PREFIX WORD..
     terminal new-session -d -s "$name" -x 150 -y 12 "sh '$folder/run.$name'" \; set -g status off
 }
 
-# Closes the terminals of these editors, and waits four seconds at most for the end of all.
+# Closes the terminals of these editors, and waits for the end of all.
 close_editors() { # NAME..
     for name; do terminal kill-session -t "$name" 2>/dev/null; done
-    wait_for 40 has_no_editor
+    wait_for has_no_editor
     # the remains of killed ones
     rm -rf "$folder"/private/*
 }
@@ -113,7 +113,7 @@ kill_editor() { # NAME
     # all of its terminal but the shell that runs run.NAME
     # shellcheck disable=SC2009,SC2046 # by their terminal; words
     kill -s KILL $(ps -o pid=,args= -t "$(terminal display-message -p -t "$1" '#{pane_tty}' | cut -c 6-)" | grep -v "run.$1" | awk '{ print $1 }') 2>/dev/null
-    wait_for 30 shows_in "$1" status
+    wait_for shows_in "$1" status
 }
 
 # Whether a row of the terminal has this text; rows that wrap count as one.
@@ -129,7 +129,7 @@ say_in() { # NAME WORD
 
 # Reports whether the terminal shows this text within six seconds.
 expect_in() { # NAME CHECK TEXT
-    wait_for 60 shows_in "$1" "$3"
+    wait_for shows_in "$1" "$3"
     report "$2" $? "'$3' is not seen, but: $(terminal capture-pane -p -J -t "$1" | grep . | tr '\n' '|')"
 }
 
@@ -139,9 +139,9 @@ leave_session() { # FILE
     printf 'ab\n' >"$1"
     [ "$user" = "$(id -u)" ] || chown "$user:$user" "$1"
     open_editor left '' "$1"
-    wait_for 60 shows_in left '- 1:1'
+    wait_for shows_in left '- 1:1'
     terminal send-keys -t left x
-    wait_for 60 shows_in left '* 1:2'
+    wait_for shows_in left '* 1:2'
     kill_editor left
     terminal kill-session -t left
 }

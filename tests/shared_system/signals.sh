@@ -31,7 +31,7 @@ kill_what_stays() {
 # Starts a session of the recorder. Sets `process`, its host, and `group`, the job's process group.
 open_recorder() {
     start 24 80 "$recorder" f
-    wait_for 50 test -e "$folder/record"
+    wait_for test -e "$folder/record"
     process=$(host_of_person)
     group=$(ps -o pgid= -p "$process" | tr -d ' ')
 }
@@ -45,9 +45,9 @@ end_with_others() { # NAME RUNS SIGNAL OTHER..
         open_recorder
         for other; do kill -s "$other" -- "-$group"; done
         kill -s "$signal" "$process"
-        wait_for 30 has_ended || { lost=$((lost + 1)) && kill_what_stays; }
+        wait_for has_ended || { lost=$((lost + 1)) && kill_what_stays; }
         terminal kill-session -t person 2>/dev/null
-        wait_for 20 has_no_process
+        wait_for has_no_process
     done
     same "$name, of $runs runs those that go on" "$lost" 0
 }
@@ -59,7 +59,7 @@ close_with_size() { # RUNS
         open_recorder
         resize 20 $((run + 60))
         terminal kill-session -t person
-        wait_for 40 has_no_process || { lost=$((lost + 1)) && kill_what_stays; }
+        wait_for has_no_process || { lost=$((lost + 1)) && kill_what_stays; }
     done
     same "signals, a size and the terminal's end, of $1 runs those that go on" "$lost" 0
 }
@@ -71,7 +71,7 @@ check_burst() {
     # the last one is told before the end
     sleep 0.5
     type_keys C-q
-    wait_for 30 has_ended
+    wait_for has_ended
     same 'signals, the last of many sizes' "$(grep -a -o '\[8;[0-9]*;[0-9]*t' "$folder/record" | tail -n 1)" '[8;40;140t'
     terminal kill-session -t person
 }
@@ -83,9 +83,9 @@ check_many_sizes() { # COUNT
     # the last one is told before the end
     sleep 0.5
     type_keys C-q
-    wait_for 50 has_ended
+    wait_for has_ended
     report "signals, $1 sizes: the end" $? 'it goes on'
-    wait_for 20 has_no_process
+    wait_for has_no_process
     same "signals, $1 sizes: processes that stay" "$(processes_of_check)" ''
     same "signals, $1 sizes: the last one" "$(grep -a -o '\[8;[0-9]*;[0-9]*t' "$folder/record" | tail -n 1)" "[8;$((20 + $1 % 9));$((70 + $1 % 31))t"
     kill_what_stays
@@ -98,12 +98,12 @@ end_young_program() { # RUNS
     for run in $(seq "$1"); do
         start 24 80 "$recorder" f &
         starter=$!
-        wait_for 50 has_program
+        wait_for has_program
         kill -s TERM "$(program_process)"
         wait "$starter"
-        wait_for 30 has_ended || { lost=$((lost + 1)) && kill_what_stays; }
+        wait_for has_ended || { lost=$((lost + 1)) && kill_what_stays; }
         terminal kill-session -t person
-        wait_for 20 has_no_process
+        wait_for has_no_process
     done
     same "signals, a young program, of $1 runs those that go on" "$lost" 0
 }

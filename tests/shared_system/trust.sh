@@ -72,7 +72,7 @@ check_state_below_stranger() {
     chown "$user" "$folder/state/bidi_edit"
     printf 'ab\n' | as_user tee note >/dev/null
     open_editor first '' note
-    wait_for 60 shows_in first '- 1:1'
+    wait_for shows_in first '- 1:1'
     terminal send-keys -t first C-q
     expect_in first 'trust, a state folder below that of another user' 'unsaved text is not kept, since'
     same 'trust, a state folder below that of another user: nothing is made there' "$(ls -A "$folder/state/bidi_edit")" ''
@@ -90,7 +90,7 @@ check_planted_session() { # CHECK OWNER
     open_editor first '' note
     expect_in first "trust, $1: FILE is opened" '- 1:1'
     terminal send-keys -t first C-q
-    wait_for 30 shows_in first status
+    wait_for shows_in first status
     open_editor first '' --recover note
     expect_in first "trust, $1: it is not recovered" 'there is no session of note to recover'
     victim_stays "trust, $1"
@@ -108,7 +108,7 @@ check_question_first() {
     expect_in first 'trust, what is asked' 'an unfinished session from'
     same 'trust, nothing is obeyed before the answer' "$(cd "$session" && find . -exec stat -c '%n %Y %s' {} + | sort)" "$before"
     say_in first later
-    wait_for 30 shows_in first '- 1:1'
+    wait_for shows_in first '- 1:1'
     close_editors first
 }
 

@@ -2,20 +2,20 @@
 # shellcheck disable=SC2034,SC2154 # variables shared with other parts
 # Sessions of another version of the editor or its tables: recovered from the snapshot, or with a warning.
 
-# Kills the program, so that the host leaves the session with its text, `snapshot`, and replaces its `versions` by those of
-# another editor. Sets `session`, its folder.
+# Kills the program, so that the host leaves the session with its text, `snapshot`, and has its facts name another editor. Sets
+# `session`, its folder.
 leave_other_version() {
     rm -rf "$folder/state" note*
     printf 'ab\n' | as_user tee note >/dev/null
     open_editor first '' note
-    wait_for 60 shows_in first '- 1:1'
+    wait_for shows_in first '- 1:1'
     terminal send-keys -t first x y
-    wait_for 60 shows_in first '* 1:3'
+    wait_for shows_in first '* 1:3'
     kill -s KILL "$(program_of_check)"
-    wait_for 60 shows_in first status
+    wait_for shows_in first status
     session=$(session_of_check)
     same 'versions, the text where a session was left' "$(cat "$session/snapshot")" xyab
-    echo 'bidi-edit of another time' | as_user tee "$session/versions" >/dev/null
+    python3 -B "$top/tests/host/about.py" "$session" versions 'bidi-edit of another time'
 }
 
 # The text is recovered without its keys, as one that is not saved.
@@ -31,15 +31,15 @@ check_snapshot() {
     kill_editor first
     check_untouched
     terminal send-keys -t first z
-    wait_for 30 shows_in first 'zxyab'
+    wait_for shows_in first 'zxyab'
     kill_editor first
     open_editor first '' note
-    wait_for 60 shows_in first '[d]elete for good'
+    wait_for shows_in first '[d]elete for good'
     say_in first recover
     expect_in first 'versions, and goes on after a second end' 'zxyab'
     same 'versions, FILE is as it was' "$(cat note)" ab
     terminal send-keys -t first C-s
-    wait_for 30 shows_in first saved
+    wait_for shows_in first saved
     terminal send-keys -t first C-q
     expect_in first 'versions, it is said' 'status 0'
     same 'versions, no session stays' "$(ls -A "$folder/state/bidi_edit")" ''
@@ -48,7 +48,7 @@ check_snapshot() {
 
 # A recovered text is kept even if no key is typed.
 check_untouched() {
-    as_user truncate -s 0 "$(session_of_check)/journal"
+    python3 -B "$top/tests/host/about.py" "$(session_of_check)" journal </dev/null
     as_user "$host" --recover >"$folder/output" 2>&1 </dev/null
     has 'versions, without a key: it is listed' "$(cat "$folder/output")" 'keys: 0'
     open_editor first '' note
@@ -66,7 +66,7 @@ check_no_snapshot() {
     leave_other_version
     rm -f "$session/snapshot"
     open_editor first '' note
-    wait_for 60 shows_in first '[d]elete for good'
+    wait_for shows_in first '[d]elete for good'
     say_in first recover
     expect_in first 'versions, nothing is sure' 'its keys may give another text now'
     say_in first yes

@@ -39,9 +39,8 @@ check_terminal() { # KIND
         return
     fi
     case $1 in
-    kitty_as_it_is) check_note "$1" 'force_ltr yes' .config/kitty/kitty.conf ;;
     qterminal)
-        check_note "$1" enabledBidiSupport=false .config/qterminal.org/qterminal.ini
+        check_hint "$1"
         check_changes "$1"
         # which has 60 columns and 10 rows
         xdotool windowsize "$window" 618 268
@@ -50,9 +49,9 @@ check_terminal() { # KIND
         ;;
     alacritty_tmux) check_mouse_in_tmux "$1" ;;
     alacritty_screen) check_mouse_in_screen "$1" ;;
-    *_tmux) check_in_tmux "$1" ;;
     foot | *_set) check_mouse "$1" ;;
     *)
+        [ "$1" != kitty ] || check_hint "$1"
         check_rows "$1"
         check_joined "$1"
         check_mark "$1"
@@ -72,8 +71,8 @@ check_terminal() { # KIND
 # Starts the editor with this FILE, or words and a FILE, and keeps its first picture under this name.
 open_editor() { # FILE PICTURE
     give "'$top/bidi-edit' $1 2>../errors"
-    wait_for 200 is_raw
-    wait_for 200 has_status
+    wait_for is_raw
+    wait_for has_status
     # for what the terminal still draws
     sleep 0.5
     take_picture "$2"
@@ -85,7 +84,7 @@ let_save() { sleep 0.5; }
 # Leaves the editor, and waits for the shell.
 leave_editor() { # NAME
     press ctrl+q
-    wait_for 200 has_obeyed
+    wait_for has_obeyed
     report "$1, its end" $? 'the editor goes on'
 }
 
@@ -192,7 +191,7 @@ check_clusters() { # KIND
 check_text() { # KIND
     rm -f "$room/read"
     printf '\033[i' >"$(cat "$room/tty")"
-    wait_for 50 test -s "$room/read"
+    wait_for test -s "$room/read"
     same "$1, the screen's text" "$(sed -e 's/[[:space:]]*$//' -e 2q "$room/read")" "$(cat "$room/files/rows")"
 }
 
@@ -352,45 +351,30 @@ check_control_keys() { # KIND
 # The editor's title is there meanwhile only where the terminal gives the old one back; the shell's is there afterwards.
 check_title() { # KIND
     order "printf '\033]2;before\007'"
-    wait_for 50 has_title '*before*' || report "$1, a title of before" 1 "$(title)"
+    wait_for has_title '*before*' || report "$1, a title of before" 1 "$(title)"
     open_editor text "$1-title"
     if keeps_title "$1"; then
-        wait_for 20 has_title '*^S save ^Q quit*'
+        wait_for has_title '*^S save ^Q quit*'
         report "$1, title" $? "$(title)"
     else
         has_title '*before*'
         report "$1, title" $? "$(title)"
     fi
     leave_editor "$1, title"
-    wait_for 50 has_title '*before*'
+    wait_for has_title '*before*'
     report "$1, title at the end" $? "$(title)"
 }
 
-# A terminal mirrors words unless it is set not to, and the host tells the setting.
-check_note() { # KIND LINE FILE
-    open_editor text "$1-editor"
-    leave_editor "$1"
-    case $(cat "$room/errors") in
-    *"$2"*) report "$1, the note" 0 '' ;;
-    *) report "$1, the note" 1 "$(cat "$room/errors")" ;;
-    esac
-    mkdir -p "$HOME/${3%/*}"
-    echo "$2" >>"$HOME/$3"
-    open_editor text "$1-set"
-    leave_editor "$1, set"
-    same "$1, set, no note" "$(cat "$room/errors")" ''
-}
-
-# In tmux the shell of window.sh runs once more, in a window of the terminal's size.
-check_in_tmux() { # KIND
-    if ! command -v tmux >/dev/null; then
-        skip "$1" 'there is no tmux'
-        return
-    fi
-    give "tmux -u -L bx$$ -f /dev/null new-session 'sh $room/shell' ';' set -g status off"
-    wait_for 100 has_obeyed
-    check_rows "$1"
-    give 'tmux kill-server'
-    # until tmux has given the terminal back
-    sleep 0.5
+# The first start in a terminal that mirrors words, unless it is set not to, says so in the last row, until a key is pressed.
+check_hint() { # KIND
+    # of an earlier start under its variables
+    rm -f "$HOME"/.local/state/bidi_edit/hint-*
+    open_editor text "$1-hint"
+    press Right Left
+    take_picture "$1-no-hint"
+    other_picture "$1, the hint" "$1-hint" "$1-no-hint"
+    leave_editor "$1, the hint"
+    open_editor text "$1-later"
+    same_picture "$1, no hint later" "$1-later" "$1-no-hint"
+    leave_editor "$1, no hint later"
 }

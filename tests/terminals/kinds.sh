@@ -32,13 +32,6 @@ start_qterminal() { exec qterminal -e "sh $room/shell"; }
 start_kitty() {
     mkdir -p "$HOME/.config/kitty"
     printf '%s\n' 'force_ltr yes' >"$HOME/.config/kitty/kitty.conf"
-    exec_kitty
-}
-start_kitty_as_it_is() {
-    rm -rf "$HOME/.config/kitty"
-    exec_kitty
-}
-exec_kitty() {
     exec kitty -o font_family=FreeMono -o font_size=12 -o remember_window_size=no -o initial_window_width=60c \
         -o initial_window_height=10c -o cursor_blink_interval=0 -o update_check_interval=0 sh "$room/shell"
 }
@@ -46,7 +39,7 @@ exec_kitty() {
 start_foot() {
     weston --backend=x11-backend.so --use-pixman --shell=kiosk-shell.so --width=604 --height=184 --no-config --socket=bx --idle-time=0 &
     compositor=$!
-    wait_for 50 test -S "$XDG_RUNTIME_DIR/bx"
+    wait_for test -S "$XDG_RUNTIME_DIR/bx"
     WAYLAND_DISPLAY=bx foot --font=FreeMono:size=12 sh "$room/shell" &
     foot=$!
     trap 'kill $foot $compositor' TERM
@@ -62,8 +55,6 @@ start_mlterm_set() {
     echo 'allow_osc52=true' >"$HOME/.mlterm/main"
     start_mlterm
 }
-start_vte_tmux() { start_vte; }
-start_konsole_tmux() { start_konsole; }
 start_alacritty_tmux() { start_alacritty; }
 start_alacritty_screen() { start_alacritty; }
 

@@ -18,8 +18,8 @@ make_stand_in() {
 open_stand_in() { # WORD..
     rm -f "$room/record"
     give "'$stand_in' $* text 2>../errors"
-    wait_for 200 is_raw
-    wait_for 200 has_status
+    wait_for is_raw
+    wait_for has_status
     # for what the terminal still draws
     sleep 0.5
 }
@@ -156,9 +156,9 @@ repeat() { # TIMES TEXT
 # Checks that presses, drags and the wheel send nothing to the shell.
 check_silence() { # NAME
     give 'stty raw -echo; timeout 3 cat >../after; stty sane'
-    wait_for 50 is_raw
+    wait_for is_raw
     drag_in 2 3 5 8
-    wait_for 100 has_obeyed
+    wait_for has_obeyed
     same "$1" "$(tr -d '\033' <"$room/after")" ''
 }
 
@@ -166,7 +166,7 @@ check_silence() { # NAME
 copied() { # NAME KIND
     if takes_clips "$2"; then
         press ctrl+c
-        wait_for 50 has_selection clipboard "$(cat "$room/clip")"
+        wait_for has_selection clipboard "$(cat "$room/clip")"
         same "$1" "$(selection clipboard | cksum)" "$(cksum <"$room/clip")"
     else
         put_selection clipboard before
@@ -189,7 +189,7 @@ check_clips() { # KIND
     case $(harm_of_clips "$1") in
     ended)
         press ctrl+c
-        wait_for 50 has_ended
+        wait_for has_ended
         report "$1, a long copy ends it" $? 'it goes on'
         return
         ;;
@@ -322,7 +322,7 @@ check_mouse_in_tmux() { # KIND
         return
     fi
     give "tmux -u -L bx$$ -f /dev/null new-session 'sh $room/shell' ';' set -g status off ';' set -g set-clipboard on"
-    wait_for 100 has_obeyed
+    wait_for has_obeyed
     check_mouse "$1"
     give 'tmux kill-server'
     # until tmux has given the terminal back
@@ -336,7 +336,7 @@ check_mouse_in_screen() { # KIND
         return
     fi
     give "screen -U sh $room/shell"
-    wait_for 100 has_obeyed
+    wait_for has_obeyed
     measure_cells "$1"
     open_stand_in
     press_at 2 5

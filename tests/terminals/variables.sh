@@ -35,10 +35,4 @@ check_variables() {
         told "$other in konsole and mlterm" '' TERM="$other" KONSOLE_VERSION=221203 MLTERM=3.9.0
     done
     told 'GNU screen in konsole' '' TERM=xterm-256color KONSOLE_VERSION=221203 STY=1.screen
-    mkdir -p "$HOME/.local/share/konsole" "$HOME/.mlterm"
-    echo BidiRenderingEnabled=false >"$HOME/.local/share/konsole/plain.profile"
-    echo 'use_ctl = false' >"$HOME/.mlterm/main"
-    told 'konsole with a profile that does not reorder' "$konsole_off" TERM=xterm-256color KONSOLE_VERSION=221203
-    told 'mlterm that is set' '' TERM=xterm MLTERM=3.9.0
-    rm -r "$HOME/.local/share/konsole" "$HOME/.mlterm"
 }

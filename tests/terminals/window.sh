@@ -5,15 +5,16 @@
 # For check-terminals.sh, which sets `room`, its own folder, and `pictures`, the folder of pictures. Here are set `server`, `bus`
 # and `terminal`, the processes of display, bus and terminal, and `window`, the number of the terminal's window. In `room` are
 # `files`, where the shell is, `orders`, the pipe for its lines, `ready`, which is there when it has obeyed the last one, `tty`,
-# the name of its terminal, and `errors`, what the editor writes on standard error. Waits are in tenths of a second.
+# the name of its terminal, and `errors`, what the editor writes on standard error.
 
 # Opens a free display with a bus of its own, and hides the terminal around the check.
 open_display() {
-    unset TMUX STY XTERM_VERSION VTE_VERSION KONSOLE_VERSION MLTERM TERMINOLOGY KITTY_WINDOW_ID ALACRITTY_WINDOW_ID TERM_PROGRAM
-    unset INSIDE_EMACS WINDOWID COLORTERM SSH_CONNECTION WAYLAND_DISPLAY XDG_CONFIG_HOME XDG_DATA_HOME
-    mkdir -m 700 "$room/runtime" "$room/home" "$room/files"
+    unset XTERM_VERSION VTE_VERSION KONSOLE_VERSION MLTERM TERMINOLOGY KITTY_WINDOW_ID ALACRITTY_WINDOW_ID TERM_PROGRAM
+    unset INSIDE_EMACS WINDOWID COLORTERM SSH_CONNECTION WAYLAND_DISPLAY
+    own_state "$room"
+    mkdir -m 700 "$room/runtime" "$room/files"
     mkfifo "$room/display" "$room/orders"
-    export HOME="$room/home" XDG_RUNTIME_DIR="$room/runtime" XDG_STATE_HOME="$room/state" LIBGL_ALWAYS_SOFTWARE=1
+    export XDG_RUNTIME_DIR="$room/runtime" LIBGL_ALWAYS_SOFTWARE=1
     Xvfb -displayfd 3 -screen 0 800x400x24 -nolisten tcp 3>"$room/display" >/dev/null 2>&1 &
     server=$!
     read -r number <"$room/display" || lacks 'Xvfb does not start'
@@ -46,8 +47,8 @@ open_terminal() { # KIND
     rm -f "$room/ready"
     "start_$1" >"$room/said" 2>&1 &
     terminal=$!
-    wait_for 600 test -e "$room/ready" || return 1
-    wait_for 200 has_window || return 1
+    wait_for test -e "$room/ready" || return 1
+    wait_for has_window || return 1
     # the pointer is in the window too, as some wish for keys; half a second for the focus
     xdotool mousemove 100 60 windowfocus "$window"
     sleep 0.5
@@ -82,7 +83,7 @@ has_obeyed() {
 # Gives the shell a line, and waits for its end.
 order() { # LINE
     give "$1"
-    wait_for 200 has_obeyed
+    wait_for has_obeyed
 }
 
 # Whether a program has its terminal in raw mode.

@@ -7,6 +7,8 @@
 
 # shellcheck source=tools/launcher/names.sh
 . "$top/tools/launcher/names.sh"
+# shellcheck source=tools/launcher/waiting.sh
+. "$top/tools/launcher/waiting.sh"
 # shellcheck source=tools/launcher/unpack.sh
 . "$top/tools/launcher/unpack.sh"
 
@@ -104,20 +106,42 @@ is_ready() { # FOLDER
         [ -z "$(cd "$top" && find crates.txt data crates/*/src crates/*/specs -newer "$1/lib/bidi_edit/SOURCES" 2>/dev/null)" ]
 }
 
-# Sets `place` to the folder: out/start, or one in the user's cache where the checkout cannot be written.
+# Whether a folder can be written, or made.
+can_have() { # FOLDER
+    above=$1
+    while [ -n "$above" ] && [ ! -e "$above" ]; do above=${above%/*}; done
+    [ -d "${above:-/}" ] && [ -w "${above:-/}" ]
+}
+
+# Sets `place` to the folder: out/start, or one in the user's cache where the checkout cannot be written. Where there is no cache, or
+# none can be made, it is in a folder of the user's own among the temporary files.
 find_place() {
     place=$top/out/start
-    [ ! -w "$top/out" ] || return 0
-    [ -d "$top/out" ] || [ ! -w "$top" ] || return 0
+    ! can_have "$top/out" || return 0
     cache=${XDG_CACHE_HOME:-}
-    case $cache in /*) ;; *) cache=${HOME:-}/.cache ;; esac
-    place=$cache/bidi_edit/$(noted sources)
+    case $cache in /*) ;; *) cache=${HOME:+$HOME/.cache} ;; esac
+    if [ -n "$cache" ] && can_have "$cache/bidi_edit"; then
+        place=$cache/bidi_edit/$(noted sources)
+        return
+    fi
+    case ${TMPDIR:-} in /*) place=$TMPDIR ;; *) place=/tmp ;; esac
+    place=$place/bidi_edit.start.$(id -u)/$(noted sources)
 }
 
 # Whether the place is in the checkout, or in a folder that no other user made.
 is_own_place() {
     # shellcheck disable=SC3067 # dash, bash and busybox have it
     [ "$place" = "$top/out/start" ] || { [ -O "${place%/*}" ] && [ ! -L "${place%/*}" ]; }
+}
+
+# Requires the tools by which dist/ is compared with the sources and unpacked.
+need_tools() {
+    for tool in sha256sum awk find sort xargs tar gzip; do
+        command -v "$tool" >/dev/null || {
+            say_fault "there is no $tool, which a start from dist/ needs: install it (on Debian, apt install coreutils mawk findutils tar gzip)"
+            return 2
+        }
+    done
 }
 
 # Sets `start` to the folder that the programs of dist/ run from, after unpacking them if need be. With the word `thoroughly` it looks
@@ -132,8 +156,9 @@ find_start() { # [thoroughly]
         start=$place
         return 0
     fi
+    need_tools || return
     # before the sources are read, so that what is written meanwhile is newer
     begun=$(TZ=UTC0 date +%Y%m%d%H%M.%S)
     suits || return
-    prepare
+    prepare "$@"
 }

@@ -23,6 +23,19 @@ tell_usage() {
     exit 0
 }
 
+# Refuses a start that has to prove and build, as `cause` says, without the toolchain.
+need_toolchain() {
+    command -v rt >/dev/null && return
+    case $cause in
+    '') cause='dist/ is missing' advice='git checkout dist brings it back' ;;
+    *checksum*) advice='git checkout dist brings back what was committed' ;;
+    'the sources are'*) advice="git status shows what was changed in crates/, and README.md names the toolchain" ;;
+    *) advice='README.md names it' ;;
+    esac
+    printf 'bidi-edit: %s, and the toolchain (rt), which would prove and build the editor, is not installed: %s\n' "$cause" "$advice" >&2
+    exit 1
+}
+
 # Refuses words without a FILE or with several, and a FILE that is a folder. The host judges all else.
 check_words() { # WORD..
     while [ $# -gt 0 ]; do

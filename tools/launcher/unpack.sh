@@ -1,10 +1,6 @@
 # shellcheck shell=sh
 # shellcheck disable=SC2034,SC2154 # words that the scripts give and take
-# Unpacks dist/, for dist.sh. `top` is the repository, `place` the folder to unpack to, `begun` the time of the start.
-
-say_fault() { # WORDS
-    printf 'bidi-edit: %s\n' "$1" >&2
-}
+# Unpacks dist/, for dist.sh, which reads waiting.sh too. `top` is the repository, `place` the folder to unpack to, `begun` the time of the start.
 
 # Prints the cause from messages of commands in English, without their names. On a full disk, tar only says what it could not write.
 cause_of() { # WORDS
@@ -48,7 +44,7 @@ make_host() { # FOLDER
     fi
     case $told in
     *'there is no C compiler'*)
-        say_fault 'there is no C compiler, and the host in dist/ was not built from the sources in host/: install a compiler (on Debian, apt install gcc libc6-dev)'
+        say_fault 'there is no C compiler, and the host in dist/ was not built from the sources in host/: install a compiler (on Debian, apt install gcc libc6-dev), or undo what was changed in host/ (git status shows it)'
         ;;
     *) printf '%s\n' "$told" >&2 ;;
     esac
@@ -78,6 +74,12 @@ run_here() { # FOLDER
     "$1/lib/bidi_edit/bidi_edit" </dev/null >/dev/null 2>&1
     # a shell's statuses of a program that cannot be executed, and of signals
     [ $? -lt 126 ]
+}
+
+# Prints why the programs do not run here, as far as the system tells.
+tell_no_run() {
+    libc=$(getconf GNU_LIBC_VERSION 2>/dev/null) || libc='another C library'
+    echo "the programs in dist/ do not run on this machine: they need glibc 2.34 or later, and this is ${libc:-another C library}"
 }
 
 # Makes the folder beside its place and then renames it, so that its place never has a part of it. `beside` is removed at the end.
@@ -125,18 +127,35 @@ make_room() {
         is_own_place && { [ "$place" = "$top/out/start" ] || chmod 700 -- "${place%/*}"; } && : >>"$place.lock"
 }
 
-# Makes the place ready and sets `start`. It returns the same statuses as find_start.
-prepare() {
+# Removes all but the three newest folders of the user's cache, which belong to other checkouts. The one that was just made ready stays.
+remove_old() {
+    [ "$place" != "$top/out/start" ] || return 0
+    # shellcheck disable=SC2012 # a name is a digest
+    (cd -- "${place%/*}" && ls -t -d -- */lib/bidi_edit/SOURCES) 2>/dev/null | sed 's|/.*||' |
+        awk -v own="${place##*/}" '$0 != own && /^[0-9a-f]+$/ && length($0) == 64 && ++count > 2' |
+        while read -r old; do rm -rf -- "${place%/*}/${old:?}" "${place%/*}/$old.lock"; done
+}
+
+# The same, one start at a time, without the traps of the script.
+prepare_locked() {
+    (trap - HUP INT QUIT TERM && prepare_alone) 9>>"$place.lock"
+}
+
+# Makes the place ready and sets `start`. It returns the same statuses as find_start, and has its words.
+prepare() { # [thoroughly]
     told=$(in_english make_room) || {
         [ -n "$told" ] || told=': it belongs to another user'
         refuse_place "$told"
         return
     }
-    (prepare_alone) 9>>"$place.lock"
+    if [ $# = 0 ]; then while_waiting prepare_locked; else prepare_locked; fi
     case $? in
-    0) start=$place ;;
+    0)
+        start=$place
+        remove_old
+        ;;
     3)
-        cause='the programs in dist/ do not run on this machine'
+        cause=$(tell_no_run)
         return 1
         ;;
     *) return 2 ;;
