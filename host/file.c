@@ -264,17 +264,41 @@ static enum cause find_and_open(struct file *file) {
     return CAUSE_NONE;
 }
 
+/* Puts a file in memory with `front`, and the bytes of `text` from a place on, in the place of `text`. */
+static bool copy_to_memory(int *text, const char *front, off_t place) {
+    int copy = memfd_create("bidi-edit", MFD_CLOEXEC);
+    bool is_copied = copy >= 0 && write_bytes(copy, front, strlen(front)) == 0 && copy_file(*text, place, copy) == 0;
+    close_one(is_copied ? text : &copy);
+    if (is_copied) *text = copy;
+    return is_copied;
+}
+
 bool leave_out_mark(int *text) {
     enum { LENGTH = sizeof BYTE_ORDER_MARK - 1 };
     char front[LENGTH];
     struct stat found;
     if (*text < 0 || pread(*text, front, LENGTH, 0) != LENGTH || memcmp(front, BYTE_ORDER_MARK, LENGTH) != 0) return false;
-    if (fstat(*text, &found) != 0 || found.st_size > LARGEST_TEXT + LENGTH) return false;
+    return fstat(*text, &found) == 0 && found.st_size <= LARGEST_TEXT + LENGTH && copy_to_memory(text, "", LENGTH);
+}
+
+bool put_mark(int *text) {
+    return copy_to_memory(text, BYTE_ORDER_MARK, 0);
+}
+
+void read_into_memory(int *source) {
+    static char bytes[LARGEST_TEXT + sizeof BYTE_ORDER_MARK];
+    size_t length = 0;
+    ssize_t count = 1;
     int copy = memfd_create("bidi-edit", MFD_CLOEXEC);
-    bool is_copied = copy >= 0 && copy_file(*text, LENGTH, copy) == 0;
-    close_one(is_copied ? text : &copy);
-    if (is_copied) *text = copy;
-    return is_copied;
+    while (copy >= 0 && count > 0 && length < sizeof bytes) {
+        count = read(*source, bytes + length, sizeof bytes - length);
+        if (count > 0) length += (size_t)count;
+    }
+    int error = copy < 0 || count < 0 ? errno : write_bytes(copy, bytes, length);
+    close_one(source);
+    if (error) close_one(&copy);
+    *source = copy;
+    errno = error;
 }
 
 enum cause open_file(struct file *file, const char *typed) {

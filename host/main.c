@@ -72,8 +72,8 @@ static int refuse(int status, const char *why) {
 
 /* ---- print: FILE's rows, which bidi_print writes */
 
-/* Returns why an open plain file is not a text; NULL if it is one, or if reading fails, which the printing program then reports. */
-static const char *check_text(const char *typed, int text) {
+/* Returns why an open text cannot be printed; NULL if it can be. */
+static const char *check_text(const char *typed, int text, bool is_plain) {
     static char bytes[LARGEST_TEXT + 1];
     static struct file file;
     ssize_t count = 1;
@@ -87,13 +87,14 @@ static const char *check_text(const char *typed, int text) {
     for (size_t i = 0; i < valid; i++) text_line += bytes[i] == '\n';
     file.typed = typed;
     file.text = text;
-    if (length > LARGEST_TEXT) return file_message(&file, CAUSE_TOO_LONG, 0);
-    return count == 0 && valid < length ? file_message(&file, check_encoding(&file), text_line) : NULL;
+    if (count < 0) return text_of("%s cannot be read: %s", shown(typed), strerror(errno));
+    if (length > LARGEST_TEXT) return is_plain ? file_message(&file, CAUSE_TOO_LONG, 0) : text_of("%s has more than the limit of %d bytes", shown(typed), LARGEST_TEXT);
+    return valid < length ? file_message(&file, check_encoding(&file), text_line) : NULL;
 }
 
-/* Returns why FILE cannot be printed, by its kind and permissions, and by its text; NULL if it can be. A device or pipe is accepted and not
- * opened, since its writer would see that. */
-static const char *refuse_to_print(const char *typed) {
+/* Opens FILE, or what a pipe or device gives, which is read once, and sets `text`. Returns why FILE cannot be printed, by its kind and
+ * permissions, and by its text; NULL if it can be. */
+static const char *open_printed(const char *typed, int *text) {
     struct stat look;
     const char *why = NULL;
     if (stat(typed, &look) != 0) why = "does not exist";
@@ -101,10 +102,12 @@ static const char *refuse_to_print(const char *typed) {
     else if (S_ISSOCK(look.st_mode)) why = "is a socket, not a text file";
     else if (faccessat(AT_FDCWD, typed, R_OK, AT_EACCESS) != 0) why = "cannot be read: if it is yours, chmod u+r makes it readable";
     if (why) return text_of("%s %s", shown(typed), why);
-    int text = S_ISREG(look.st_mode) ? open(typed, O_RDONLY | O_NONBLOCK | O_CLOEXEC) : -1;
-    const char *refusal = text >= 0 ? check_text(typed, text) : NULL;
-    close_one(&text);
-    return refusal;
+    bool is_plain = S_ISREG(look.st_mode);
+    *text = open(typed, O_RDONLY | O_NOCTTY | O_CLOEXEC | (is_plain ? O_NONBLOCK : 0));
+    if (*text >= 0 && !is_plain) read_into_memory(text);
+    if (*text < 0) return text_of("%s cannot be read: %s", shown(typed), strerror(errno));
+    leave_out_mark(text);
+    return check_text(typed, *text, is_plain);
 }
 
 /* The columns of a printed row, if the user gives none: those of standard output, if that is a terminal, else those of the terminal or of the
@@ -123,8 +126,9 @@ static unsigned usual_columns(void) {
 static int print_file(const struct call *call, const struct programs *programs) {
     struct tables tables;
     struct words words = {.count = 0};
+    int text = -1;
     const char *cause = find_tables(&tables, programs->tables);
-    if (!cause) cause = refuse_to_print(call->file);
+    if (!cause) cause = open_printed(call->file, &text);
     if (!cause && is_output_closed) cause = "standard output is closed";
     if (cause) return refuse(STATUS_FAULT, cause);
     add_word(&words, programs->printer);
@@ -132,7 +136,8 @@ static int print_file(const struct call *call, const struct programs *programs) 
     add_option(&words, "--direction", direction_word(call->direction));
     if (call->has_marks) add_word(&words, "--marks");
     add_tables(&words, &tables, !call->is_unjoined);
-    add_word(&words, call->file);
+    add_word(&words, link_of(text).path);
+    fcntl(text, F_SETFD, 0);
     give_back_signals();
     execv(programs->printer, words.words);
     return refuse(STATUS_FAULT, text_of("%s cannot be started: %s", programs->printer, strerror(errno)));

@@ -85,11 +85,13 @@ static int settle_file(struct edit *edit, enum replayed found) {
         /* the usual opening refuses a FILE whose folder is gone */
         return edit->file.is_lost ? find_file(edit, typed, false) : check_access(edit);
     }
+    bool has_mark = edit->file.has_mark;
     edit->aside_of = typed;
     const char *beside = free_name(AT_FDCWD, typed, "recovered");
     tell("another program or window has changed %s since; the session's text is recovered as %s", shown(typed), shown(beside));
     bool is_too_long = lstat(beside, &look) != 0 && errno == ENAMETOOLONG;
     int status = is_too_long ? STATUS_FAULT : find_file(edit, beside, false);
+    edit->file.has_mark = has_mark;
     if (status == GO_ON) status = check_access(edit);
     if (status != GO_ON) warn("to store the text elsewhere: bidi-edit --recover --to OTHER %s", shown(typed));
     return status;
@@ -318,7 +320,9 @@ static int store(struct edit *edit, const struct session *session) {
     const char *other = edit->call->other, *damage = session_damage(session);
     int text = text_to_store(edit, session);
     if (text < 0) return STATUS_FAULT;
-    enum cause cause = make_file(AT_FDCWD, other, text, session->about.mode >= 0 ? (mode_t)session->about.mode : 0600);
+    /* what a save would write */
+    enum cause cause = edit->file.has_mark && !put_mark(&text) ? CAUSE_OUT_OF_MEMORY : CAUSE_NONE;
+    if (!cause) cause = make_file(AT_FDCWD, other, text, session->about.mode >= 0 ? (mode_t)session->about.mode : 0600);
     close(text);
     if (cause) return tell_unwritten(other, cause);
     tell("the text of %s, with what was typed in the session (keys: %zu), is now in %s", shown(edit->file.typed), session_count_keys(session), shown(other));

@@ -510,8 +510,12 @@ def printing(check, place):
     place.put('a.txt', b'text\n')
     place.put('latin', b'a\n\xe9')
     status, out, _ = place.tells('--print', 'a.txt')
-    words = ' <--cols> <80> <--direction> <auto> <--classes> '
-    check.holds('the program\'s words', status == 0 and out.startswith(words) and out.endswith(' <a.txt>\n'), (status, out))
+    words = 'printed <--cols> <80> <--direction> <auto> <--classes> '
+    check.holds('the program\'s words and text', status == 0 and out.startswith(words) and out.endswith('>\ntext\n'), (status, out))
+    place.put('marked', b'\xef\xbb\xbftext\n')
+    for name, redirection in (('marked', ''), ('-', '<marked')):
+        status, out, _ = place.tells('--print', name, redirection=redirection)
+        check.same(f'without a byte order mark: {name}', (status, out.split('>\n')[1]), (0, 'text\n'))
     check.same('no file', place.tells('--print', 'none'), (1, '', 'bidi-edit: none does not exist\n'))
     check.same('a folder', place.tells('--print', '.'), (1, '', 'bidi-edit: . is a folder: name a file in it\n'))
     found = place.tells('--print', 'latin')
@@ -529,7 +533,7 @@ def byte_order_mark(check, place):
         check.same('sessions', place.sessions(), [])
     place.put('a.txt', mark + b'one\n')
     place.leave()
-    recovers(check, place, 'a.txt', b'abcone\n')
+    recovers(check, place, 'a.txt', mark + b'abcone\n')
     place.start('a.txt').answers(CHOICE, 'r').sees(b'text <abcone|>').type(SAVE).sees(b'saved').type(QUIT).ends(0)
     check.same('FILE after a recovery', place.text('a.txt'), mark + b'abcone\n')
     place.edit('a.txt').type(b'x').sees(b'*').type(QUIT).ends(0)
