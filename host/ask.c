@@ -83,6 +83,10 @@ pid_t note_open_file(const struct file *file) {
     struct sockaddr_un address = {.sun_family = AF_UNIX};
     struct ucred peer = {0, 0, 0};
     socklen_t length = sizeof peer;
+    if (!file) {
+        close_one(&own);
+        return 0;
+    }
     uint64_t hash = 14695981039346656037u;
     for (const char *at = file->name; *at; at++) hash = (hash ^ (unsigned char)*at) * 1099511628211u;
     int count = snprintf(address.sun_path + 1, sizeof address.sun_path - 1, "bidi-edit.%u.%ju.%ju.%ju", (unsigned)geteuid(),

@@ -253,12 +253,35 @@ static void make_edit_words(struct edit *edit, struct words *words) {
     add_word(words, edit->file.typed);
 }
 
-/* Makes the titles: FILE's last name, the main keys (^S is Ctrl-S), and a note. */
-static void make_titles(struct edit *edit) {
+/* The title now: FILE's last name, the main keys (^S is Ctrl-S), and a note. */
+static const char *title_now(const struct edit *edit) {
     static const char *const notes[] = {[TITLE_KEPT] = "", [TITLE_UNKEPT] = " (unsaved text is not kept)",
                                         [TITLE_LOST] = " (unsaved text is not kept now: save it)"};
-    const char *slash = strrchr(edit->file.typed, '/'), *name = shown(slash ? slash + 1 : edit->file.typed);
-    for (size_t i = 0; i < sizeof notes / sizeof *notes; i++) edit->titles[i] = text_of("%s - ^S save ^Q quit F1 keys%s", name, notes[i]);
+    static char title[4 * PATH_MAX + 128];
+    snprintf(title, sizeof title, "%s - ^S save ^Q quit F1 keys%s", edit->shown_name, notes[title_note_of(&edit->facts, edit->facts.told)]);
+    return title;
+}
+
+bool take_new_file(struct edit *edit) {
+    static struct new_file taken;
+    const struct new_file *made = saver_new_file(&edit->saver);
+    if (!made || strcmp(made->file.path, taken.file.path) == 0) return false;
+    taken = *made;
+    close_file(&edit->file);
+    edit->file = taken.file;
+    edit->file.folder = edit->file.itself = edit->file.text = -1;
+    edit->file.typed = taken.typed;
+    edit->shown_name = taken.shown_name;
+    edit->target = (struct target){.path = edit->file.path, .folder = -1, .name = edit->file.name};
+    edit->aside_of = edit->moved = NULL;
+    return true;
+}
+
+/* After a save under a new name: the other starts on this machine, the title, and the last line after a kill know the new file. */
+static void tell_new_file(const struct edit *edit) {
+    note_open_file(&edit->file);
+    show_title(title_now(edit));
+    if (edit->facts.has_session) put_last_line(saver_new_file(&edit->saver)->shown);
 }
 
 /* Called once the program has read FILE: the keeper copies FILE into the session. */
@@ -283,6 +306,7 @@ static void on_saved(void *whose) {
     struct edit *edit = whose;
     if (saver_cause(&edit->saver) != 0) return;
     edit->was_saved = true;
+    if (take_new_file(edit)) tell_new_file(edit);
     keeper_note_save();
 }
 
@@ -297,7 +321,7 @@ static void tell_trouble(struct edit *edit) {
     edit->seconds_since++;
     facts->told = trouble;
     if (is_new) {
-        show_title(edit->titles[title_note_of(facts, trouble)]);
+        show_title(title_now(edit));
         if (trouble != NOTICE_NONE) ring();
     } else if (trouble == NOTICE_NONE || !edit->is_typed_since || edit->seconds_since < HIDDEN) {
         return;
@@ -365,10 +389,11 @@ int run_session(struct edit *edit) {
                             .has_mouse = !edit->call->has_no_mouse, .has_clipboard = !edit->call->has_no_clipboard};
     make_edit_words(edit, &words);
     program->words = words.words;
-    make_titles(edit);
+    const char *slash = strrchr(edit->file.typed, '/');
+    edit->shown_name = shown(slash ? slash + 1 : edit->file.typed);
     begin_facts(edit);
     begin_saves(edit);
-    program->title = edit->titles[title_note_of(&edit->facts, edit->facts.told)];
+    program->title = title_now(edit);
     if (edit->is_resumed) {
         program->rows = edit->begin.rows;
         program->columns = edit->begin.cols;
@@ -376,7 +401,7 @@ int run_session(struct edit *edit) {
     enum notice notice = first_notice(edit);
     if (notice != NOTICE_NONE) give_notice(notice);
     else program->hint = new_hint(&edit->sessions);
-    if (!session_is_none(&edit->session)) program->last_line = text_of("bidi-edit was killed: bidi-edit --recover %s restores unsaved text\n", shown(edit->file.typed));
+    program->killed = session_is_none(&edit->session) ? NULL : shown(edit->file.typed);
     enum run_end end = run_program(program);
     is_telling_limited = true;
     if (end == RUN_ENDED) return keeper_end(edit);

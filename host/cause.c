@@ -18,6 +18,7 @@ static const char *const sentences[CAUSES] = {
     [CAUSE_NOT_PLAIN] = "not a plain file",
     [CAUSE_CUT_OFF] = "file cut off",
     [CAUSE_OTHER] = "disk error",
+    [CAUSE_EXISTS] = "file exists",
     [CAUSE_FOLDER] = "% is a folder: name a file in it",
     [CAUSE_NAMES_FOLDER] = "% ends in a slash, so it names a folder: name a file",
     [CAUSE_STANDARD_INPUT] = "% is standard input, not a file: write the input to a file, and edit that",

@@ -17,6 +17,7 @@ enum cause {
     CAUSE_NOT_PLAIN,
     CAUSE_CUT_OFF,
     CAUSE_OTHER,
+    CAUSE_EXISTS,
     /* FILE names nothing that can be edited. */
     CAUSE_FOLDER,
     CAUSE_NAMES_FOLDER,

@@ -53,11 +53,11 @@ struct edit {
     struct saver saver;
     struct run run;
     /* While the program runs: what is known about the keeping of unsaved text; whether keys were typed since a notice about it was shown, and
-     * how many seconds ago that was; the titles; and whether a save has succeeded. */
+     * how many seconds ago that was; FILE's last name as the title shows it; and whether a save has succeeded. */
     struct now_facts facts;
     bool is_typed_since;
     unsigned seconds_since;
-    const char *titles[3];
+    const char *shown_name;
     bool was_saved;
 };
 
@@ -90,6 +90,9 @@ const char *unkept_by(const struct sessions *sessions, enum notice *notice);
 /* Begins a session of FILE, unless none is wanted or possible; goes on with the session that is recovered. */
 int begin_session(struct edit *edit);
 int resume_session(struct edit *edit);
+
+/* Takes the file that a save under a new name made for FILE. Its folder is not open then. Returns false if there is no other FILE. */
+bool take_new_file(struct edit *edit);
 
 /* The path by which the program opens what the host has open. */
 const char *handed_path(struct run *run, int file);
@@ -163,7 +166,7 @@ enum rest { REST_NONE, REST_OPEN, REST_KEEP };
 enum rest ask_rest(void);
 
 /* Announces to all other starts on this machine, until this process ends, that it has FILE open. Returns 0, or the number of a process
- * that already has FILE open, -1 if that number is unknown. No file is made. */
+ * that already has FILE open, -1 if that number is unknown. No file is made. NULL: ends that. */
 pid_t note_open_file(const struct file *file);
 
 #endif

@@ -308,24 +308,37 @@ enum cause open_file(struct file *file, const char *typed) {
     return cause;
 }
 
-/* Opens the folder of a name that something else than a plain file has. */
-static enum cause open_name(struct file *file, const char *typed, enum cause other) {
+/* Opens the folder of a name, without regard to what has that name. */
+static bool open_name(struct file *file, const char *typed) {
     char folder[PATH_MAX];
-    *file = (struct file){.typed = typed, .folder = -1, .itself = -1, .text = -1, .other = other};
-    if (!split(typed, folder, file->name) || !file->name[0]) return other;
+    *file = (struct file){.typed = typed, .folder = -1, .itself = -1, .text = -1};
+    errno = ENOENT;
+    if (!split(typed, folder, file->name) || !file->name[0]) return false;
     file->folder = open_folder(AT_FDCWD, folder);
-    if (file->folder < 0) return other;
+    if (file->folder < 0) return false;
     put_path(file->folder_name, "%s", folder);
     name_paths(file);
     find_id(file->folder, &file->folder_id);
-    return CAUSE_NONE;
+    return true;
+}
+
+enum cause open_new_file(struct file *file, const char *typed) {
+    struct file_stamp there;
+    if (is_folder(typed)) return CAUSE_EXISTS;
+    if (!open_name(file, typed)) return cause_of(errno);
+    if (!stamp_at(file->folder, file->name, &there)) return errno == ENAMETOOLONG ? CAUSE_NOT_PERMITTED : cause_of(errno);
+    if (there.is_there) return CAUSE_EXISTS;
+    return !file->is_at_path ? CAUSE_FOLDER_GONE : is_utf8(file->path) ? CAUSE_NONE : CAUSE_OTHER;
 }
 
 enum cause open_lost_file(struct file *file, const char *typed) {
     char above[PATH_MAX], folder[PATH_MAX];
     enum cause cause = open_file(file, typed);
     bool is_other = cause == CAUSE_FOLDER || cause == CAUSE_DEVICE || cause == CAUSE_BROKEN_LINK || cause == CAUSE_CIRCLE_OF_LINKS;
-    if (is_other) return open_name(file, typed, cause);
+    if (is_other && open_name(file, typed)) {
+        file->other = cause;
+        return CAUSE_NONE;
+    }
     if (!file->is_lost || !put_path(above, "%s", typed)) return cause;
     const char *rest = typed;
     while (file->folder < 0 && split(above, folder, file->name)) {

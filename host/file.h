@@ -84,6 +84,9 @@ enum cause open_file(struct file *file, const char *typed);
 /* The same for a session's FILE: its folder may be gone, and something else may be in its place. */
 enum cause open_lost_file(struct file *file, const char *typed);
 
+/* Opens the folder of a file that is to be made. Fails if something has its name. */
+enum cause open_new_file(struct file *file, const char *typed);
+
 /* A byte order mark, which is no text. Puts a copy in memory without it, or with it, in place of an open text that begins with it, or is to.
  * Returns whether it did: without memory, and where the text is too long, the text stays as it is. */
 #define BYTE_ORDER_MARK "\xef\xbb\xbf"

@@ -361,7 +361,7 @@ static const char *start(struct run *run, struct pipes *ends) {
     make_words(&words, run, ends, run->rows > 0 ? run->rows : size.rows, run->rows > 0 ? run->columns : size.columns);
     /* what it reads behind its first painting tells that it has painted */
     if (run->hint) give_notice(NOTICE_NONE);
-    if (!start_watcher(live.pipes.words, run->held, run->last_line)) return "no process can be created";
+    if (!start_watcher(live.pipes.words, run->held, run->killed)) return "no process can be created";
     watched->is_changed = true;
     if (!begin_screen()) return "the terminal's settings cannot be changed";
     listen_once();

@@ -74,6 +74,8 @@ enum mark { MARK_DROPPED = 1, MARK_CUT = 2, MARK_UNSAVED = 4, MARK_UNJOINED = 8,
 struct about {
     /* FILE's path; and that of the file beside FILE to which a recovered text is saved, or empty. Both are absolute and without links. */
     char path[PATH_MAX], beside[PATH_MAX];
+    /* The path of a new file that a save was about to make, which is no fact of `about`; empty if there is none. */
+    char new_path[PATH_MAX];
     /* FILE as it was opened or saved last. */
     bool has_id;
     struct file_id id;

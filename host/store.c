@@ -208,7 +208,7 @@ static enum belonging belonging_of(const struct session *session, const struct t
     struct stat found;
     const struct about *about = &session->about;
     struct belonging_facts facts = {.is_path = strcmp(about->path, target->path) == 0,
-                                    .is_beside = about->beside[0] && strcmp(about->beside, target->path) == 0,
+                                    .is_beside = strcmp(about->beside, target->path) == 0 || strcmp(about->new_path, target->path) == 0,
                                     .is_file = session_is_of_file(session, target)};
     facts.has_beside = facts.is_path && about->beside[0] && lstat(about->beside, &found) == 0;
     return judge_belonging(&facts);

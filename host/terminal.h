@@ -2,6 +2,7 @@
 #ifndef TERMINAL_H
 #define TERMINAL_H
 
+#include <limits.h>
 #include <pthread.h>
 #include <stdbool.h>
 #include <stddef.h>
@@ -99,6 +100,8 @@ struct watched {
     volatile bool is_changed, has_read;
     volatile pid_t program, saver;
     struct paste paste;
+    /* What is said once the terminal is restored. */
+    char line[4 * PATH_MAX + 128];
 };
 
 extern struct watched *watched;
@@ -110,8 +113,12 @@ extern pid_t watcher;
 void note_own_word(char *word);
 
 /* Starts the watcher. It reads the program's pipe `words`, whose end tells it that the program has ended. Until then it holds the session's
- * folder and lock (-1 without a session). It says `line`, if that is not NULL, once it has restored the terminal. */
-bool start_watcher(int words, const int held[2], const char *line);
+ * folder and lock (-1 without a session). Once it has restored the terminal, it says how the session of FILE, shown so, is recovered, if
+ * that is not NULL. */
+bool start_watcher(int words, const int held[2], const char *file);
+
+/* Changes the name that it says. */
+void put_last_line(const char *file);
 
 /* Kills the watcher, once the host itself has restored the terminal. */
 void end_watcher(void);
