@@ -3,13 +3,13 @@ begin so. Exit status 1: a case failed."""
 import os, shutil, signal, sys
 HERE = os.path.dirname(os.path.abspath(__file__))
 sys.path.insert(0, HERE)
-import keeping_cases, keeping_ends, keeping_files, keeping_stalls
+import keeping_cases, keeping_ends, keeping_files, keeping_names, keeping_stalls
 from checks import Report, lasting_folder, share, try_case
 from keeping_scene import Place
 from terminals import become_reaper
 from tree import PRINTER, write
 
-CASES = {case.__name__: case for case in keeping_cases.CASES + keeping_ends.CASES + keeping_files.CASES + keeping_stalls.CASES}
+CASES = {case.__name__: case for case in keeping_cases.CASES + keeping_ends.CASES + keeping_files.CASES + keeping_names.CASES + keeping_stalls.CASES}
 
 
 def install(folder, host):
