@@ -375,12 +375,30 @@ enum cause check_access_to(const struct file *file, bool is_in_place) {
     return file->stamp.is_there && !file->facts.writable ? CAUSE_WRITE_PROTECTED : CAUSE_NONE;
 }
 
+/* Bytes of letters that Hebrew and Arabic texts of Windows do not share. */
+struct letters {
+    size_t hebrew, arabic;
+};
+
+/* For read_pieces: counts them. */
+static void count_letters(void *context, const char *bytes, size_t size) {
+    struct letters *letters = context;
+    for (size_t at = 0; at < size; at++) {
+        unsigned char byte = (unsigned char)bytes[at];
+        letters->arabic += byte >= 0xd3 && byte <= 0xdf && byte != 0xd7;
+        letters->hebrew += byte && strchr("\xe0\xe2\xe7\xe8\xe9\xea\xeb\xee\xef\xf4\xf7\xf9", byte);
+    }
+}
+
 enum cause check_encoding(const struct file *file) {
+    struct letters letters = {0};
     char front[FRONT];
     ssize_t count = file->text >= 0 ? pread(file->text, front, sizeof front, 0) : 0;
     if (count >= 2 && (memcmp(front, "\xff\xfe", 2) == 0 || memcmp(front, "\xfe\xff", 2) == 0)) return CAUSE_UTF16;
     bool is_binary = count > 0 && ((count >= 4 && memcmp(front, "\x7f" "ELF", 4) == 0) || memchr(front, 0, (size_t)count));
-    return is_binary ? CAUSE_BINARY : CAUSE_NOT_UTF8;
+    if (is_binary) return CAUSE_BINARY;
+    if (file->text >= 0) read_pieces(file->text, 0, count_letters, &letters);
+    return letters.arabic > letters.hebrew ? CAUSE_ARABIC : CAUSE_NOT_UTF8;
 }
 
 const char *file_message(const struct file *file, enum cause cause, unsigned long long number) {

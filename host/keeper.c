@@ -64,6 +64,7 @@ static void note_saved(struct edit *edit) {
     if (take_new_file(edit)) {
         edit->file.folder = edit->target.folder = open_folder(AT_FDCWD, edit->file.folder_path);
         edit->session.about.beside[0] = 0;
+        if (edit->begin.is_nameless) put_path(edit->session.about.name, "%s", saver_new_file(&edit->saver)->raw);
     }
     if (session_is_none(&edit->session)) return;
     session_note_saved(&edit->session);
@@ -202,7 +203,7 @@ void keeper_hear(struct now_facts *facts) {
 /* Says why the session was not ended, and what becomes of the text. */
 static int leave_end(const struct edit *edit, const char *why) {
     enum end_word end = edit->run.said.end;
-    const char *kept = end == END_SAVED || !edit->facts.has_session ? "" : text_of("; what is kept of unsaved text: bidi-edit --recover %s", shown(edit->file.typed));
+    const char *kept = end == END_SAVED || !edit->facts.has_session ? "" : text_of("; what is kept of unsaved text: bidi-edit --recover%s", name_word(edit, edit->file.typed));
     kill_child(&keeper);
     warn("%s%s", why, kept);
     return end == END_SAVED || end == END_DROPPED ? 0 : edit->run.status;

@@ -193,8 +193,9 @@ static const char *number_text(const struct session *session) {
 
 /* If another process of the user's has FILE open, or may have it open where that cannot be checked from here, asks whether to go on. Returns
  * GO_ON if none has, else ASKED or the exit status. */
-static int ask_beside(const struct edit *edit, const struct found *found) {
+static int ask_beside(struct edit *edit, const struct found *found) {
     static const char overwrites[] = "Each window may overwrite what the other saves.";
+    if (is_nameless(edit)) return GO_ON;
     const char *file = shown(edit->call->file);
     pid_t other = edit->file.is_lost ? 0 : note_open_file(&edit->file);
     bool is_live = !session_is_none(&found->live);
@@ -208,7 +209,9 @@ static int ask_beside(const struct edit *edit, const struct found *found) {
     else
         tell("%s may be open in another window of yours (process %s on %s, which cannot be checked from here). %s", file, number,
              machine ? machine : THIS_MACHINE, overwrites);
-    return ask_to_go_on("Edit it anyway") ? ASKED : STATUS_NO;
+    enum beside beside = ask_what_beside();
+    if (beside == BESIDE_VIEW) edit->is_view = true;
+    return beside == BESIDE_NO ? STATUS_NO : ASKED;
 }
 
 /* Deletes a session for good. If that fails, the question comes again. */
@@ -223,7 +226,8 @@ static int delete_session(const struct edit *edit, struct session *session) {
 
 /* Asks about an unfinished session, and does what the user chooses. */
 static int ask_what_to_do(struct edit *edit, struct session *session) {
-    tell("%s has an unfinished session from %s (keys typed: %zu)", shown(edit->file.typed), time_text(session), session_count_keys(session));
+    const char *file = is_nameless(edit) ? "a text without a name" : shown(edit->file.typed);
+    tell("%s has an unfinished session from %s (keys typed: %zu)", file, time_text(session), session_count_keys(session));
     switch (ask_choice()) {
     case CHOICE_RECOVER: return take_over(edit, session);
     case CHOICE_LATER: return ASKED;

@@ -156,12 +156,12 @@ static void mind_answer(const struct run *run) {
     watched->has_read = taken > 0;
     if (run->hint && !live.is_hinted && taken > 0 && taken == live.given) {
         live.is_hinted = true;
-        show_last_row(run->hint, true);
+        show_last_row(run->hint, run->hint_column, true);
     }
     if (live.is_late || live.end != 0 || taken == 0 || now() < live.answered + LATE_MS) return;
     if (poll(&output, 1, 0) <= 0 || output.revents != POLLOUT) return;
     live.is_late = true;
-    show_last_row(cause_of_waiting(), false);
+    show_last_row(cause_of_waiting(), 1, false);
 }
 
 /* ---- saves */

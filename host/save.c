@@ -148,6 +148,7 @@ static enum cause open_named(struct save *save) {
     if (cause != CAUSE_NONE) return cause;
     state->has_new_file = true;
     made->file.has_mark = save->file->has_mark;
+    snprintf(made->raw, sizeof made->raw, "%s", save->raw_name);
     snprintf(made->typed, sizeof made->typed, "%s", save->new_name);
     snprintf(made->shown, sizeof made->shown, "%s", shown(save->new_name));
     snprintf(made->shown_name, sizeof made->shown_name, "%s", shown(made->file.name));
@@ -178,12 +179,14 @@ static enum cause save_as(struct save *save) {
 
 /* Takes the name that a BEGIN has. The home folder is ~, and nothing that a command line could take for an option is a name. */
 static void take_name(struct save *save, const unsigned char *bytes, size_t length) {
+    const char *own = save->saver->own_name;
+    if (*own && strlen(own) == length && memcmp(own, bytes, length) == 0) return;
     const char *home = length > 1 && bytes[0] == '~' && bytes[1] == '/' ? variable("HOME") : NULL;
     const char *before = home ? home : length > 0 && (bytes[0] == '-' || bytes[0] == '+') ? "./" : "";
     size_t left = home ? 1 : 0;
     /* a name that is too long, or has a NUL, is no name of a file */
     bool is_name = !memchr(bytes, 0, length) && put_path(save->new_name, "%s%.*s", before, (int)(length - left), (const char *)bytes + left);
-    if (!is_name) put_path(save->new_name, "/");
+    if (!is_name || !put_path(save->raw_name, "%.*s", (int)length, (const char *)bytes)) put_path(save->new_name, "/");
 }
 
 /* ---- the child */
@@ -281,7 +284,7 @@ static void become_child(const struct saver *saver, int request, int answer) {
 
 bool saver_open(struct saver *saver, struct file *file) {
     void *shared = mmap(NULL, sizeof(struct saved), PROT_READ | PROT_WRITE, MAP_SHARED | MAP_ANONYMOUS, -1, 0);
-    *saver = (struct saver){.file = file, .backup_folder = -1, .lock = -1, .lost_mode = -1, .answer = -1, .boot = ""};
+    *saver = (struct saver){.file = file, .backup_folder = -1, .lock = -1, .lost_mode = -1, .answer = -1, .own_name = "", .boot = ""};
     if (shared == MAP_FAILED) return false;
     saver->saved = shared;
     atomic_init(&saver->saved->current, 0);

@@ -11,11 +11,11 @@
 
 struct saved;
 
-/* A file that a save under a new name made: paths and folder, which is not open; the name as a command line may have it; and how messages show
- * that and its last part. */
+/* A file that a save under a new name made: paths and folder, which is not open; the name as it came, and as a command line may have it; and
+ * how messages show that and its last part. */
 struct new_file {
     struct file file;
-    char typed[PATH_MAX], shown[4 * PATH_MAX], shown_name[4 * PATH_MAX];
+    char raw[PATH_MAX], typed[PATH_MAX], shown[4 * PATH_MAX], shown_name[4 * PATH_MAX];
 };
 
 struct saver {
@@ -27,6 +27,8 @@ struct saver {
     int lost_mode;
     /* Saves overwrite FILE, with the backup beside it. */
     bool is_itself;
+    /* The name by which the program asks for FILE itself; empty without one. */
+    const char *own_name;
     /* What identifies this run of the system; empty if unknown. */
     const char *boot;
     /* What the saves so far left, in memory that the child writes to. */

@@ -60,8 +60,8 @@ struct save {
     int step;
     /* FILE is there, as it was last seen; it is to be overwritten; it has no access list. What was told may be overwritten. */
     bool is_there, is_in_place, is_listless, is_over;
-    /* The name of the new file that the save makes; empty if it goes to FILE. */
-    char new_name[PATH_MAX];
+    /* The name of the new file that the save makes, and as it came; empty if it goes to FILE. */
+    char new_name[PATH_MAX], raw_name[PATH_MAX];
 };
 
 /* ---- save.c */

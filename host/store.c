@@ -272,7 +272,7 @@ void sessions_forget_dropped(const struct sessions *sessions, const struct sessi
     walk_end(&walk);
 }
 
-void sessions_forget(const struct sessions *sessions, const struct target *target, void (*tell)(void *, const struct forgotten *),
+void sessions_forget(const struct sessions *sessions, const struct target *target, bool removes, void (*tell)(void *, const struct forgotten *),
                      void *context) {
     struct walk walk;
     walk_begin(&walk, sessions);
@@ -281,8 +281,10 @@ void sessions_forget(const struct sessions *sessions, const struct target *targe
         if (target && belonging_of(session, target) == BELONGS_NOT) continue;
         enum session_state state = session_state(session);
         if (state == SESSION_LIVE || state == SESSION_ELSEWHERE) continue;
-        struct forgotten forgotten = {.path = session->about.path, .was_dropped = state == SESSION_DROPPED};
+        struct forgotten forgotten = {.path = session->about.path, .was_dropped = state == SESSION_DROPPED, .is_asked = !removes};
         forgotten.has_time = session_changed(session, &forgotten.changed);
+        if (!removes && state != SESSION_EMPTY) tell(context, &forgotten);
+        if (!removes) continue;
         /* another start may have it by now */
         enum lock_result lock = session_lock(session);
         if (lock == LOCK_TAKEN) forgotten.cause = session_remove(session);

@@ -67,8 +67,9 @@ void restore_screen(int64_t limit, bool ends_pastes);
 void leave_screen(int64_t limit);
 void enter_screen(void);
 
-/* Shows a message in the last row, in place of what the program painted there. The cursor stays behind it, unless `keeps_cursor`. */
-void show_last_row(const char *message, bool keeps_cursor);
+/* Shows a message in the last row, from a column on, over what the program painted there; from the first one on in place of all of it. The
+ * cursor stays behind it, unless `keeps_cursor`. */
+void show_last_row(const char *message, unsigned column, bool keeps_cursor);
 
 /* Whether sequences wait to be written to the terminal; writes as much as it takes. A sequence for which there is no room is dropped. */
 bool is_showing(void);
@@ -113,11 +114,11 @@ extern pid_t watcher;
 void note_own_word(char *word);
 
 /* Starts the watcher. It reads the program's pipe `words`, whose end tells it that the program has ended. Until then it holds the session's
- * folder and lock (-1 without a session). Once it has restored the terminal, it says how the session of FILE, shown so, is recovered, if
- * that is not NULL. */
+ * folder and lock (-1 without a session). Once it has restored the terminal, it says how the session is recovered, with this word
+ * for FILE, if that is not NULL. */
 bool start_watcher(int words, const int held[2], const char *file);
 
-/* Changes the name that it says. */
+/* Changes the word that it says. */
 void put_last_line(const char *file);
 
 /* Kills the watcher, once the host itself has restored the terminal. */

@@ -124,7 +124,7 @@ static _Noreturn void become_watcher(int words, const int held[2], pid_t host) {
 }
 
 void put_last_line(const char *file) {
-    snprintf(watched->line, sizeof watched->line, "bidi-edit was killed: bidi-edit --recover %s restores unsaved text\n", file);
+    snprintf(watched->line, sizeof watched->line, "bidi-edit was killed: bidi-edit --recover%s restores unsaved text\n", file);
 }
 
 /* Users kill processes by the host's name, so the watcher never has that name. */

@@ -26,11 +26,11 @@ def save_as(check, place):
     os.mkdir(place.path('in'))
     started = place.edit('a.txt', TERM='xterm').type(b'abc')
     started.type(AS + b'taken' + ENTER).sees(b'failed: 11').type(AS + b'none/b' + ENTER).sees(b'failed: 3')
-    started.type(AS + b'in/b c' + ENTER).sees(b'saved').sees(b"\x1b]2;'b c' - ^S save")
+    started.type(AS + b'in/b c' + ENTER).sees(b"\x1b]2;'b c' - ^S save")
     check.same('both files', (place.text('a.txt'), place.text('in/b c'), place.text('taken')), (b'text\n', b'abctext\n', b'theirs\n'))
     started.type(b'd').sees(b'<abcdtext').type(SAVE).sees(b'- saved')
     check.same('the next save', (place.text('a.txt'), place.text('in/b c')), (b'text\n', b'abcdtext\n'))
-    place.start('in/b c').answers(b'Edit it anyway (yes, no)?', 'no').ends(2)
+    place.start('in/b c').answers(b'Edit it anyway (yes, no, view)?', 'no').ends(2)
     place.edit('a.txt').type(QUIT).ends(0)
     started.type(b'e').sees(b'<abcdetext')
     end = time.monotonic() + HANG
@@ -49,7 +49,7 @@ def save_as_twice(check, place):
     """A session that keeps nothing saves so too, and what is unsaved then is told by the new name."""
     place.put('a.txt', b'text\n', 0o640)
     started = place.edit('-n', 'a.txt').type(b'abc' + AS + b'b' + ENTER).sees(b'\x1b]2;b - ').type(AS + b'c' + ENTER).sees(b'\x1b]2;c - ')
-    place.start('c').answers(b'Edit it anyway (yes, no)?', 'no').ends(2)
+    place.start('c').answers(b'Edit it anyway (yes, no, view)?', 'no').ends(2)
     place.edit('a.txt').type(QUIT).ends(0)
     started.type(b'd' + SAVE).sees(b'<abcdtext|> - saved').type(QUIT).ends(0)
     check.same('files', [place.text(name) for name in ('a.txt', 'b', 'c')], [b'text\n', b'abctext\n', b'abcdtext\n'])

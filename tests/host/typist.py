@@ -9,7 +9,7 @@ import os, signal, sys, time
 
 QUIT, SAVE, OVER, AS, ENTER = 0x11, 0x13, 0x17, 0x0f, 0x0d
 WAYS = set(os.environ.get('TYPIST', '').split(','))
-SWITCHES = {'--frames', '--new', '--unsaved', '--clipboard'}
+SWITCHES = {'--frames', '--new', '--unsaved', '--clipboard', '--view', '--indent'}
 
 
 def put(file, bytes_):
