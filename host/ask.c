@@ -40,6 +40,7 @@ static char *ask(const char *question) {
     while (isspace((unsigned char)*answer)) answer++;
     for (char *at = answer; *at; at++) *at = *at >= 'A' && *at <= 'Z' ? (char)(*at - 'A' + 'a') : *at;
     for (size_t length = strlen(answer); length > 0 && isspace((unsigned char)answer[length - 1]);) answer[--length] = 0;
+    put_letters_of_keys(answer);
     return answer;
 }
 
@@ -54,6 +55,24 @@ static int ask_either(const char *question, const char *one, const char *other) 
 
 bool ask_to_go_on(const char *question) {
     return ask_either(text_of("%s (yes, no)?", question), "yes", "no") == 0;
+}
+
+enum beside ask_what_beside(void) {
+    static const char question[] = "Edit it anyway (yes, no, view)?";
+    for (const char *answer = ask(question); answer; answer = ask(question)) {
+        if (is_word(answer, "yes")) return BESIDE_YES;
+        if (is_word(answer, "view")) return BESIDE_VIEW;
+        if (is_word(answer, "no")) return BESIDE_NO;
+    }
+    return BESIDE_NO;
+}
+
+/* Asks for the word that deletes, or for a digit that stands in the question, which no slip types. */
+static bool ask_to_delete(void) {
+    char digit[2] = "";
+    make_letters(digit, 1, "23456789");
+    const char *answer = ask(text_of("To delete this for good, type delete or %s:", digit));
+    return answer && (strcmp(answer, "delete") == 0 || (*digit && strcmp(answer, digit) == 0));
 }
 
 enum choice ask_choice(void) {
@@ -83,6 +102,10 @@ pid_t note_open_file(const struct file *file) {
     struct sockaddr_un address = {.sun_family = AF_UNIX};
     struct ucred peer = {0, 0, 0};
     socklen_t length = sizeof peer;
+    if (!file) {
+        close_one(&own);
+        return 0;
+    }
     uint64_t hash = 14695981039346656037u;
     for (const char *at = file->name; *at; at++) hash = (hash ^ (unsigned char)*at) * 1099511628211u;
     int count = snprintf(address.sun_path + 1, sizeof address.sun_path - 1, "bidi-edit.%u.%ju.%ju.%ju", (unsigned)geteuid(),
@@ -115,6 +138,11 @@ const char *machine_text(const struct session *session) {
     return strcmp(process->machine, this_process()->machine) == 0 ? NULL : shown(process->machine);
 }
 
+/* A session's FILE, as it is listed. */
+static const char *path_shown(const char *path) {
+    return path[1] ? shown(path) : NO_NAME;
+}
+
 /* Lists a session, if it can be recovered, and notes what is not merely unfinished. */
 static bool list_session(const struct session *session) {
     enum session_state state = session_state(session);
@@ -124,7 +152,7 @@ static bool list_session(const struct session *session) {
     if (state == SESSION_ELSEWHERE) note = text_of(" (on %s)", machine ? machine : THIS_MACHINE);
     if (state == SESSION_LIVE) note = " (open now)";
     put_text(STDOUT_FILENO, text_of("%s  keys: %zu  KB: %llu  %s%s\n", time_text(session), session_count_keys(session),
-                                    (unsigned long long)session_kilobytes(session), shown(session->about.path), note));
+                                    (unsigned long long)session_kilobytes(session), path_shown(session->about.path), note));
     return true;
 }
 
@@ -148,33 +176,71 @@ int list_sessions(void) {
     return 0;
 }
 
-/* How many sessions were removed, and how many could not be. */
+bool is_only_nameless(void) {
+    struct sessions sessions;
+    struct walk walk;
+    size_t named = 0, nameless = 0;
+    find_sessions(&sessions);
+    walk_begin(&walk, &sessions);
+    while (walk_next_own(&walk)) {
+        bool is_here = session_has_something(&walk.session);
+        enum session_state state = is_here ? session_state(&walk.session) : SESSION_EMPTY;
+        bool is_nameless = !walk.session.about.path[1] && (state == SESSION_UNFINISHED || state == SESSION_DROPPED);
+        nameless += is_nameless;
+        named += is_here && !is_nameless;
+    }
+    walk_end(&walk);
+    sessions_close(&sessions);
+    return nameless == 1 && named == 0;
+}
+
+/* How many sessions are to be removed, were removed, and could not be. */
 struct counts {
-    size_t removed, kept;
+    size_t asked, removed, kept;
 };
 
-/* For sessions_forget: tells what became of a session, and counts it. */
+/* For sessions_forget: tells which session is to be removed, or what became of it, and counts it. */
 static void tell_forgotten(void *context, const struct forgotten *forgotten) {
     struct counts *counts = context;
     char time[32] = "";
     if (forgotten->has_time) time_words(&forgotten->changed, time);
-    const char *name = text_of("the session of %s%s%s", shown(forgotten->path), *time ? " from " : "", time);
+    const char *name = text_of("the session of %s%s%s", path_shown(forgotten->path), *time ? " from " : "", time);
+    counts->asked += forgotten->is_asked;
+    if (forgotten->is_asked) {
+        tell("%s has unsaved text%s", name, forgotten->was_dropped ? " (dropped)" : "");
+        return;
+    }
     if (forgotten->cause) warn("%s cannot be deleted%s", name, fault_words(forgotten->cause));
     else tell("%s is deleted%s", name, forgotten->was_dropped ? " (dropped)" : "");
     counts->kept += forgotten->cause != 0;
     counts->removed += forgotten->cause == 0;
 }
 
+/* Lists what has unsaved text, and asks for the word. Returns GO_ON or the exit status. */
+static int ask_to_forget(const struct sessions *sessions, const struct target *target) {
+    struct counts counts = {0};
+    sessions_forget(sessions, target, false, tell_forgotten, &counts);
+    if (counts.asked == 0) return GO_ON;
+    if (terminal_line < 0) {
+        warn("--forget asks before it deletes unsaved text, and there is no terminal: --forget --yes deletes it unasked");
+        return STATUS_NO;
+    }
+    return ask_to_delete() ? GO_ON : STATUS_NO;
+}
+
 /* Of FILE, also those go that another name of it has. */
-int forget_sessions(const char *typed) {
+int forget_sessions(const char *typed, bool is_sure) {
     static struct edit edit;
-    struct counts counts = {0, 0};
+    struct counts counts = {0};
     int status = typed ? find_file(&edit, typed, true) : GO_ON;
     if (status != GO_ON) return status;
     if (!typed) find_sessions(&edit.sessions);
-    sessions_forget(&edit.sessions, typed ? &edit.target : NULL, tell_forgotten, &counts);
+    const struct target *target = typed ? &edit.target : NULL;
+    if (!is_sure) status = ask_to_forget(&edit.sessions, target);
+    if (status == GO_ON) sessions_forget(&edit.sessions, target, true, tell_forgotten, &counts);
     if (typed) close_edited(&edit);
     else sessions_close(&edit.sessions);
+    if (status != GO_ON) return status;
     if (counts.removed + counts.kept == 0 && typed) tell("there is no session of %s to delete", shown(typed));
     if (counts.removed + counts.kept == 0 && !typed) tell("there are no sessions to delete");
     return counts.kept > 0 ? STATUS_FAULT : 0;

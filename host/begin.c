@@ -20,6 +20,14 @@ enum { READ_BY_OTHERS = 044 };
 
 /* ---- FILE */
 
+bool is_nameless(const struct edit *edit) {
+    return edit->file.path[0] == '/' && !edit->file.path[1];
+}
+
+const char *name_word(const struct edit *edit, const char *typed) {
+    return is_nameless(edit) ? "" : text_of(" %s", shown(typed));
+}
+
 void close_edited(struct edit *edit) {
     if (!edit->file.typed) return;
     close_file(&edit->file);
@@ -27,8 +35,20 @@ void close_edited(struct edit *edit) {
     edit->file.typed = NULL;
 }
 
+/* A text without a name, which may have come from standard input, has no folder. */
+static void open_nameless(struct edit *edit) {
+    edit->file = (struct file){.typed = NO_NAME, .folder = -1, .itself = -1, .text = dup(edit->piped), .has_mark = edit->has_piped_mark, .is_lost = true, .path = "/"};
+    edit->target = (struct target){.path = edit->file.path, .folder = -1, .name = ""};
+    edit->reason = NO_REASON;
+    sessions_find(&edit->sessions);
+}
+
 int find_file(struct edit *edit, const char *typed, bool is_lost) {
     close_edited(edit);
+    if (!typed) {
+        open_nameless(edit);
+        return GO_ON;
+    }
     enum cause cause = is_lost ? open_lost_file(&edit->file, typed) : open_file(&edit->file, typed);
     if (cause != CAUSE_NONE) {
         warn("%s", file_message(&edit->file, cause, 0));
@@ -80,10 +100,14 @@ bool mend_file(struct edit *edit) {
     return is_whole && edit->file.typed;
 }
 
-int check_access(const struct edit *edit) {
-    enum cause cause = edit->call->is_forced ? CAUSE_NONE : check_access_to(&edit->file, edit->reason != NO_REASON);
-    if (cause != CAUSE_NONE) warn("%s", file_message(&edit->file, cause, 0));
-    return cause != CAUSE_NONE ? STATUS_FAULT : GO_ON;
+int check_access(struct edit *edit) {
+    if (edit->call->is_forced || is_nameless(edit)) return GO_ON;
+    enum cause cause = check_access_to(&edit->file, edit->reason != NO_REASON);
+    /* what cannot be saved can be looked at */
+    edit->is_view = edit->is_view || (cause != CAUSE_NONE && cause != CAUSE_UNREADABLE && edit->file.stamp.is_there);
+    if (cause == CAUSE_NONE || edit->is_view) return GO_ON;
+    warn("%s", file_message(&edit->file, cause, 0));
+    return STATUS_FAULT;
 }
 
 int check_file(struct edit *edit, const char *typed) {
@@ -119,6 +143,7 @@ static void note_facts(const struct edit *edit, struct about *about) {
     memcpy(about->versions, edit->versions, sizeof about->versions);
     if (!edit->is_joined) about->marks |= MARK_UNJOINED;
     if (edit->reason != NO_REASON) about->marks |= MARK_IN_PLACE;
+    if (edit->call->is_piped) about->marks |= MARK_UNSAVED;
     if (!edit->file.stamp.is_there) return;
     about->mode = (int)(found->st_mode & PERMISSIONS);
     if (found->st_uid == 0 && (found->st_mode & READ_BY_OTHERS) == 0) about->marks |= MARK_SECRET;
@@ -185,7 +210,10 @@ static void tell_unkept(const struct edit *edit) {
 int begin_session(struct edit *edit) {
     struct size size;
     measure(&size);
-    edit->begin = (struct begin){.rows = size.rows, .cols = size.columns, .line = (unsigned)edit->call->line};
+    edit->begin = (struct begin){.rows = size.rows, .cols = size.columns, .line = (unsigned)edit->call->line, .spaces = edit->call->spaces,
+                                 .is_view = edit->is_view, .is_indented = !edit->call->has_no_indent, .is_nameless = is_nameless(edit)};
+    /* no save goes to FILE */
+    if (edit->is_view) edit->reason = NO_REASON;
     snprintf(edit->begin.direction, sizeof edit->begin.direction, "%s", direction_word(edit->call->direction));
     if (edit->call->is_unkept) {
         edit->unkept = "-n was given";
@@ -230,8 +258,8 @@ static void add_text(struct edit *edit, struct words *words) {
     bool is_kept = !session_is_none(session);
     const char *journal = is_kept ? handed_path(run, session->journal) : NULL;
     int source = is_kept ? session->source : edit->file.text;
+    if (edit->is_resumed ? session_has_mark(session, MARK_UNSAVED) : edit->call->is_piped) add_word(words, "--unsaved");
     if (edit->is_resumed) {
-        if (session_has_mark(session, MARK_UNSAVED)) add_word(words, "--unsaved");
         add_option(words, "--text", handed_path(run, session->text));
         add_option(words, "--replay", journal);
     } else if (source >= 0) {
@@ -244,21 +272,57 @@ static void add_text(struct edit *edit, struct words *words) {
     if (journal) add_option(words, "--journal", journal);
 }
 
+void add_begin(struct words *words, const struct begin *begin, const char *typed) {
+    enum { LONGEST_NAME = 255 };
+    const char *slash = strrchr(typed, '/'), *name = strlen(typed) > LONGEST_NAME && slash ? slash + 1 : typed;
+    add_option(words, "--direction", begin->direction);
+    if (begin->line > 0) add_option(words, "--line", text_of("%u", begin->line));
+    if (begin->spaces > 0) add_option(words, "--spaces", text_of("%u", begin->spaces));
+    if (begin->is_view) add_word(words, "--view");
+    if (begin->is_indented) add_word(words, "--indent");
+    add_option(words, "--name", begin->is_nameless ? "" : name);
+}
+
 /* The program's arguments for this session. FILE's name comes last, as struct run has it. */
 static void make_edit_words(struct edit *edit, struct words *words) {
-    add_option(words, "--direction", edit->begin.direction);
-    if (edit->begin.line > 0) add_option(words, "--line", text_of("%u", edit->begin.line));
+    add_begin(words, &edit->begin, edit->file.typed);
     add_tables(words, &edit->tables, edit->is_joined);
     add_text(edit, words);
     add_word(words, edit->file.typed);
 }
 
-/* Makes the titles: FILE's last name, the main keys (^S is Ctrl-S), and a note. */
-static void make_titles(struct edit *edit) {
+/* The title now: FILE's last name, the main keys (^S is Ctrl-S), and a note. */
+static const char *title_now(const struct edit *edit) {
     static const char *const notes[] = {[TITLE_KEPT] = "", [TITLE_UNKEPT] = " (unsaved text is not kept)",
                                         [TITLE_LOST] = " (unsaved text is not kept now: save it)"};
-    const char *slash = strrchr(edit->file.typed, '/'), *name = shown(slash ? slash + 1 : edit->file.typed);
-    for (size_t i = 0; i < sizeof notes / sizeof *notes; i++) edit->titles[i] = text_of("%s - ^S save ^Q quit F1 keys%s", name, notes[i]);
+    static char title[4 * PATH_MAX + 128];
+    snprintf(title, sizeof title, "%s - ^S save ^Q quit F1 keys%s", edit->shown_name, notes[title_note_of(&edit->facts, edit->facts.told)]);
+    return title;
+}
+
+bool take_new_file(struct edit *edit) {
+    static struct new_file taken;
+    const struct new_file *made = saver_new_file(&edit->saver);
+    if (!made || strcmp(made->file.path, taken.file.path) == 0) return false;
+    taken = *made;
+    close_file(&edit->file);
+    edit->file = taken.file;
+    edit->file.folder = edit->file.itself = edit->file.text = -1;
+    edit->file.typed = taken.typed;
+    edit->shown_name = taken.shown_name;
+    edit->target = (struct target){.path = edit->file.path, .folder = -1, .name = edit->file.name};
+    edit->aside_of = edit->moved = NULL;
+    return true;
+}
+
+/* After a save under a new name: the other starts on this machine, the title, and the last line after a kill know the new file. */
+static void tell_new_file(const struct edit *edit) {
+    note_open_file(&edit->file);
+    show_title(title_now(edit));
+    if (!edit->facts.has_session) return;
+    static char word[4 * PATH_MAX + 1];
+    snprintf(word, sizeof word, " %s", saver_new_file(&edit->saver)->shown);
+    put_last_line(word);
 }
 
 /* Called once the program has read FILE: the keeper copies FILE into the session. */
@@ -268,6 +332,7 @@ static void on_opened(void *whose) {
     if (!session_is_none(session) && !keeper_start(edit)) return;
     /* the keeper has them; the end of a process that has such a file open may wait for its disk */
     release_file(&edit->file);
+    close_one(&edit->piped);
     close_one(&session->source);
     close_one(&session->text);
     close_one(&session->journal);
@@ -283,6 +348,7 @@ static void on_saved(void *whose) {
     struct edit *edit = whose;
     if (saver_cause(&edit->saver) != 0) return;
     edit->was_saved = true;
+    if (take_new_file(edit)) tell_new_file(edit);
     keeper_note_save();
 }
 
@@ -297,7 +363,7 @@ static void tell_trouble(struct edit *edit) {
     edit->seconds_since++;
     facts->told = trouble;
     if (is_new) {
-        show_title(edit->titles[title_note_of(facts, trouble)]);
+        show_title(title_now(edit));
         if (trouble != NOTICE_NONE) ring();
     } else if (trouble == NOTICE_NONE || !edit->is_typed_since || edit->seconds_since < HIDDEN) {
         return;
@@ -332,20 +398,28 @@ static void begin_saves(struct edit *edit) {
     if (!saver_open(&edit->saver, &edit->file)) tell_no_memory();
     edit->saver.is_itself = edit->is_itself;
     edit->saver.lost_mode = edit->lost_mode;
+    edit->saver.own_name = edit->session.about.name;
     if (session_is_none(&edit->session)) return;
     edit->saver.lock = edit->session.folder;
     edit->saver.boot = this_process()->boot;
     if (edit->is_in_place) edit->saver.backup_folder = edit->session.folder;
 }
 
-/* The hint for the terminal, unless a start has shown it: a file in the folder of sessions tells that. */
-static const char *new_hint(const struct sessions *sessions) {
+/* What the last row says until the first key: for some terminals a hint in all of it, unless a start has shown that, which a file in the folder
+ * of sessions tells; else what the text is, or the main keys, behind the numbers, if they and FILE's name have room. */
+static void choose_hint(struct edit *edit) {
+    struct run *run = &edit->run;
     const char *name, *hint = terminal_hint(&name);
-    if (!hint || sessions->state != FOLDER_READY) return NULL;
-    int file = openat(sessions->folder, text_of("hint-%s", name), O_WRONLY | O_CREAT | O_EXCL | O_NOFOLLOW | O_CLOEXEC, 0600);
-    if (file < 0) return NULL;
-    close(file);
-    return hint;
+    bool is_wanted = hint && edit->sessions.state == FOLDER_READY;
+    int file = is_wanted ? openat(edit->sessions.folder, text_of("hint-%s", name), O_WRONLY | O_CREAT | O_EXCL | O_NOFOLLOW | O_CLOEXEC, 0600) : -1;
+    run->hint_column = 1;
+    if (file >= 0) run->hint = hint;
+    close_one(&file);
+    if (run->hint) return;
+    hint = edit->begin.is_view ? "view only" : is_nameless(edit) || edit->file.stamp.is_there ? "F1 keys  ^S save  ^Q quit" : "new file";
+    run->hint_column = (unsigned)strlen(text_of("* %u:1 ", edit->begin.line > 0 ? edit->begin.line : 1)) + 1;
+    bool has_room = run->hint_column + strlen(hint) + strlen(edit->file.typed) + 6 <= edit->begin.cols && edit->begin.rows > 1;
+    if (has_room) run->hint = hint;
 }
 
 /* The notice that the program shows first; NOTICE_NONE where there is none. */
@@ -365,18 +439,19 @@ int run_session(struct edit *edit) {
                             .has_mouse = !edit->call->has_no_mouse, .has_clipboard = !edit->call->has_no_clipboard};
     make_edit_words(edit, &words);
     program->words = words.words;
-    make_titles(edit);
+    const char *slash = strrchr(edit->file.typed, '/');
+    edit->shown_name = is_nameless(edit) ? NO_NAME : shown(slash ? slash + 1 : edit->file.typed);
     begin_facts(edit);
     begin_saves(edit);
-    program->title = edit->titles[title_note_of(&edit->facts, edit->facts.told)];
+    program->title = title_now(edit);
     if (edit->is_resumed) {
         program->rows = edit->begin.rows;
         program->columns = edit->begin.cols;
     }
     enum notice notice = first_notice(edit);
     if (notice != NOTICE_NONE) give_notice(notice);
-    else program->hint = new_hint(&edit->sessions);
-    if (!session_is_none(&edit->session)) program->last_line = text_of("bidi-edit was killed: bidi-edit --recover %s restores unsaved text\n", shown(edit->file.typed));
+    else choose_hint(edit);
+    program->killed = session_is_none(&edit->session) ? NULL : name_word(edit, edit->file.typed);
     enum run_end end = run_program(program);
     is_telling_limited = true;
     if (end == RUN_ENDED) return keeper_end(edit);

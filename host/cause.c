@@ -18,6 +18,7 @@ static const char *const sentences[CAUSES] = {
     [CAUSE_NOT_PLAIN] = "not a plain file",
     [CAUSE_CUT_OFF] = "file cut off",
     [CAUSE_OTHER] = "disk error",
+    [CAUSE_EXISTS] = "file exists",
     [CAUSE_FOLDER] = "% is a folder: name a file in it",
     [CAUSE_NAMES_FOLDER] = "% ends in a slash, so it names a folder: name a file",
     [CAUSE_STANDARD_INPUT] = "% is standard input, not a file: write the input to a file, and edit that",
@@ -37,9 +38,10 @@ static const char *const sentences[CAUSES] = {
     [CAUSE_FOLDER_PROTECTED] = "you cannot write to the folder @, so no save is possible: edit a copy elsewhere; --force opens the file anyway",
     [CAUSE_UNREADABLE] = "% cannot be read: if it is yours, chmod u+r makes it readable; --force opens an empty text in its place",
     [CAUSE_WRITE_PROTECTED] = "% is write-protected: if it is yours, chmod u+w makes it writable; --force opens it anyway",
-    [CAUSE_UTF16] = "% is UTF-16, not UTF-8: iconv -f UTF-16 -t UTF-8 converts it",
+    [CAUSE_UTF16] = "% is UTF-16, not UTF-8: iconv -f UTF-16 -t UTF-8 % > &",
     [CAUSE_BINARY] = "% is a binary file, not text: od -c shows its bytes",
-    [CAUSE_NOT_UTF8] = "% is not UTF-8 (line #): if it is Hebrew text from Windows, iconv -f CP1255 -t UTF-8 converts it (Arabic: -f CP1256)",
+    [CAUSE_NOT_UTF8] = "% is not UTF-8 (line #). If it is Hebrew text from Windows: iconv -f windows-1255 -t UTF-8 % > &",
+    [CAUSE_ARABIC] = "% is not UTF-8 (line #). If it is Arabic text from Windows: iconv -f windows-1256 -t UTF-8 % > &",
     [CAUSE_TOO_LONG] = "% has # bytes, more than the limit of 16777216: split -C 16M cuts it at line ends",
 };
 
@@ -67,8 +69,10 @@ const char *cause_text(enum cause cause) {
 const char *cause_message(enum cause cause, const char *name, const char *folder, unsigned long long number) {
     char *text = text_of("%s", "");
     const char *rest = cause_text(cause);
-    for (size_t length = strcspn(rest, "%@#"); rest[length]; rest += length + 1, length = strcspn(rest, "%@#")) {
-        const char *word = rest[length] == '#' ? text_of("%llu", number) : shown(rest[length] == '%' ? name : folder);
+    static const char marks[] = "%&@#";
+    for (size_t length = strcspn(rest, marks); rest[length]; rest += length + 1, length = strcspn(rest, marks)) {
+        const char *named = rest[length] == '@' ? folder : rest[length] == '&' ? text_of("%s.utf8", name) : name;
+        const char *word = rest[length] == '#' ? text_of("%llu", number) : shown(named);
         text = text_of("%s%.*s%s", text, (int)length, rest, word);
     }
     return text_of("%s%s", text, rest);

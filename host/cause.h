@@ -17,6 +17,7 @@ enum cause {
     CAUSE_NOT_PLAIN,
     CAUSE_CUT_OFF,
     CAUSE_OTHER,
+    CAUSE_EXISTS,
     /* FILE names nothing that can be edited. */
     CAUSE_FOLDER,
     CAUSE_NAMES_FOLDER,
@@ -42,6 +43,7 @@ enum cause {
     CAUSE_UTF16,
     CAUSE_BINARY,
     CAUSE_NOT_UTF8,
+    CAUSE_ARABIC,
     CAUSE_TOO_LONG,
     CAUSES
 };
@@ -49,7 +51,7 @@ enum cause {
 /* The cause of a failed call of the system, by its errno; CAUSE_NONE for 0. */
 enum cause cause_of(int error);
 
-/* The sentence of a cause. In it, `%` stands for FILE's name, `@` for its folder's, and `#` for a number. */
+/* The sentence of a cause. In it, `%` stands for FILE's name, `&` for a new name by it, `@` for its folder's, and `#` for a number. */
 const char *cause_text(enum cause cause);
 
 /* The sentence with this number and these names, quoted for a shell. */

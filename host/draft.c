@@ -139,10 +139,11 @@ static int take_over(const struct save *save) {
 enum cause write_draft(struct save *save) {
     struct draft *draft = &save->draft;
     int backup_folder = save->is_in_place ? save->saver->backup_folder : -1;
-    bool is_known = save->state.old.is_there || save->saver->lost_mode >= 0;
+    bool is_known = !save->new_name[0] && (save->state.old.is_there || save->saver->lost_mode >= 0);
+    /* a FILE that did not exist gets the usual mode, reduced by the user's umask; under a new name others may not do more than before */
+    mode_t usual = save->new_name[0] && save->state.old.is_there ? 0600 | (0066 & save->state.old.found.st_mode) : 0666;
     if (save->is_cut) return CAUSE_OUT_OF_MEMORY;
-    /* a FILE that did not exist gets the usual mode, reduced by the user's umask */
-    *draft = (struct draft){.folder = backup_folder >= 0 ? backup_folder : save->folder, .mode = save->is_in_place || is_known ? 0600 : 0666, .file = -1};
+    *draft = (struct draft){.folder = backup_folder >= 0 ? backup_folder : save->folder, .mode = save->is_in_place || is_known ? 0600 : usual, .file = -1};
     int error = backup_folder >= 0 ? open_own(save) : open_beside(draft, save->file);
     if (error == 0) error = write_bytes(draft->file, save->bytes, save->length);
     if (error == 0 && !save->is_in_place && is_known) error = take_over(save);
@@ -270,6 +271,7 @@ enum cause replace_file(struct save *save) {
     bool is_back = is_known && is_taken_out(&save->state.seen, &now), is_own = is_known && now.is_there && is_same_file(&now.found, &before);
     if (cause == CAUSE_NONE || is_own) {
         note_own(save, save->draft.file);
+        save->state.is_told = false;
         save->state.is_old_plain = has_access_list(save->draft.file) == NO;
         /* another program that has written it since is found by the next look */
         save->state.seen.found.st_size = before.st_size;
@@ -279,7 +281,8 @@ enum cause replace_file(struct save *save) {
     } else if (is_back) {
         save->state.seen = now;
     }
-    if (cause == CAUSE_NONE) drop_backup(save);
+    /* the backup of the file that was FILE until now stays */
+    if (cause == CAUSE_NONE && !save->new_name[0]) drop_backup(save);
     return cause;
 }
 
@@ -383,6 +386,7 @@ static int overwrite(struct save *save, int file) {
         note_own(save, file);
         /* the backup stays as long as FILE may need it */
         if (save->state.is_torn) save->draft.name[0] = 0;
+        if (save->state.is_torn) save->state.is_told = false;
         /* another program that has written it since, and gave it another size, is found by the next look; some network disks set the time
          * as they sync */
         if (error == 0) save->state.seen.found.st_size = (off_t)save->length;

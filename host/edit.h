@@ -35,6 +35,9 @@ struct edit {
     /* The session; none if none is kept. */
     struct session session;
     struct begin begin;
+    /* The text cannot be changed. What standard input gave, in memory, -1 without it; it began with a byte order mark. */
+    bool is_view, has_piped_mark;
+    int piped;
     /* is_resumed: the session is a recovered one, and its keys are replayed. is_joined: letters are joined. is_in_place: saves
      * overwrite FILE, and the session has the whole text meanwhile. is_itself: they overwrite FILE without a session, and a file
      * beside FILE has the whole text meanwhile. */
@@ -53,11 +56,11 @@ struct edit {
     struct saver saver;
     struct run run;
     /* While the program runs: what is known about the keeping of unsaved text; whether keys were typed since a notice about it was shown, and
-     * how many seconds ago that was; the titles; and whether a save has succeeded. */
+     * how many seconds ago that was; FILE's last name as the title shows it; and whether a save has succeeded. */
     struct now_facts facts;
     bool is_typed_since;
     unsigned seconds_since;
-    const char *titles[3];
+    const char *shown_name;
     bool was_saved;
 };
 
@@ -71,12 +74,17 @@ const char *find_versions(const struct programs *programs, const struct tables *
  * `typed` is FILE's name. */
 int check_file(struct edit *edit, const char *typed);
 
-/* Opens FILE and finds the folder of its sessions. With `is_lost`, FILE's folder may be gone. */
+/* Opens FILE and finds the folder of its sessions. With `is_lost`, FILE's folder may be gone. NULL: a text without a name. */
 int find_file(struct edit *edit, const char *typed, bool is_lost);
 void close_edited(struct edit *edit);
 
-/* Refuses a FILE that cannot be read or saved, unless that is forced. */
-int check_access(const struct edit *edit);
+/* Refuses a FILE that cannot be read, or made, unless that is forced. One that cannot be saved is only looked at. */
+int check_access(struct edit *edit);
+
+/* Whether the text has no name; FILE's name, or none, as a word behind `bidi-edit --recover`, and what messages call such a text. */
+bool is_nameless(const struct edit *edit);
+const char *name_word(const struct edit *edit, const char *typed);
+#define NO_NAME "(no name)"
 
 /* Reports, by `say`, what became of FILE after an interrupted save. Returns whether FILE is still torn, with a part of its text only. */
 bool tell_mended(const struct edit *edit, const struct mending *mending, void (*say)(const char *format, ...));
@@ -90,6 +98,12 @@ const char *unkept_by(const struct sessions *sessions, enum notice *notice);
 /* Begins a session of FILE, unless none is wanted or possible; goes on with the session that is recovered. */
 int begin_session(struct edit *edit);
 int resume_session(struct edit *edit);
+
+/* Takes the file that a save under a new name made for FILE. Its folder is not open then. Returns false if there is no other FILE. */
+bool take_new_file(struct edit *edit);
+
+/* The program's arguments that a replay has too. `typed` is FILE's name. */
+void add_begin(struct words *words, const struct begin *begin, const char *typed);
 
 /* The path by which the program opens what the host has open. */
 const char *handed_path(struct run *run, int file);
@@ -142,7 +156,11 @@ int keeper_end(struct edit *edit);
 /* ---- ask.c */
 
 int list_sessions(void);
-int forget_sessions(const char *typed);
+/* Asks before it deletes what has unsaved text, unless `is_sure`. */
+int forget_sessions(const char *typed, bool is_sure);
+
+/* Whether a text without a name is all that can be recovered. */
+bool is_only_nameless(void);
 
 /* What messages call this machine. */
 #define THIS_MACHINE "this machine"
@@ -154,6 +172,10 @@ const char *machine_text(const struct session *session);
 /* Asks a question (yes, no). Returns false at no, and where the input ends. */
 bool ask_to_go_on(const char *question);
 
+/* Asks whether to edit a FILE that is open elsewhere, or only to look at it. BESIDE_NO where the input ends, too. */
+enum beside { BESIDE_YES, BESIDE_VIEW, BESIDE_NO };
+enum beside ask_what_beside(void);
+
 /* Asks what to do with an unfinished session. CHOICE_NONE where the input ends; CHOICE_DELETE only where it is certain. */
 enum choice ask_choice(void);
 
@@ -163,7 +185,7 @@ enum rest { REST_NONE, REST_OPEN, REST_KEEP };
 enum rest ask_rest(void);
 
 /* Announces to all other starts on this machine, until this process ends, that it has FILE open. Returns 0, or the number of a process
- * that already has FILE open, -1 if that number is unknown. No file is made. */
+ * that already has FILE open, -1 if that number is unknown. No file is made. NULL: ends that. */
 pid_t note_open_file(const struct file *file);
 
 #endif

@@ -50,8 +50,7 @@ enum replayed replay(struct edit *edit, const struct session *session, int *text
     add_word(&words, edit->programs->editor);
     add_option(&words, "--rows", text_of("%u", begin->rows));
     add_option(&words, "--cols", text_of("%u", begin->cols));
-    add_option(&words, "--direction", begin->direction);
-    if (begin->line > 0) add_option(&words, "--line", text_of("%u", begin->line));
+    add_begin(&words, begin, edit->file.typed);
     /* joined letters change no text and no place */
     add_tables(&words, &edit->tables, false);
     if (session_has_mark(session, MARK_UNSAVED)) add_word(&words, "--unsaved");
@@ -290,6 +289,10 @@ static void tell_kept(const struct edit *edit, const char *what, const char *beh
     /* what is not saved beside FILE is found under FILE's name */
     const char *typed = edit->aside_of && !is_there_now(&edit->file) ? edit->aside_of : edit->file.typed;
     const char *path = edit->moved ? edit->moved : edit->file.path;
+    if (is_nameless(edit)) {
+        warn("%s%s: bidi-edit --recover%s", what, cut, behind);
+        return;
+    }
     bool is_found = !is_folder_gone(&edit->file) && !edit->moved && (typed == edit->aside_of || leads_to_path(typed, path));
     const char *where = is_found ? "" : text_of(" in %s", shown(edit->session.path));
     warn("%s%s%s: bidi-edit --recover %s%s", what, cut, where, shown(is_found ? typed : path), behind);

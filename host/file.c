@@ -264,17 +264,41 @@ static enum cause find_and_open(struct file *file) {
     return CAUSE_NONE;
 }
 
+/* Puts a file in memory with `front`, and the bytes of `text` from a place on, in the place of `text`. */
+static bool copy_to_memory(int *text, const char *front, off_t place) {
+    int copy = memfd_create("bidi-edit", MFD_CLOEXEC);
+    bool is_copied = copy >= 0 && write_bytes(copy, front, strlen(front)) == 0 && copy_file(*text, place, copy) == 0;
+    close_one(is_copied ? text : &copy);
+    if (is_copied) *text = copy;
+    return is_copied;
+}
+
 bool leave_out_mark(int *text) {
     enum { LENGTH = sizeof BYTE_ORDER_MARK - 1 };
     char front[LENGTH];
     struct stat found;
     if (*text < 0 || pread(*text, front, LENGTH, 0) != LENGTH || memcmp(front, BYTE_ORDER_MARK, LENGTH) != 0) return false;
-    if (fstat(*text, &found) != 0 || found.st_size > LARGEST_TEXT + LENGTH) return false;
+    return fstat(*text, &found) == 0 && found.st_size <= LARGEST_TEXT + LENGTH && copy_to_memory(text, "", LENGTH);
+}
+
+bool put_mark(int *text) {
+    return copy_to_memory(text, BYTE_ORDER_MARK, 0);
+}
+
+void read_into_memory(int *source) {
+    static char bytes[LARGEST_TEXT + sizeof BYTE_ORDER_MARK];
+    size_t length = 0;
+    ssize_t count = 1;
     int copy = memfd_create("bidi-edit", MFD_CLOEXEC);
-    bool is_copied = copy >= 0 && copy_file(*text, LENGTH, copy) == 0;
-    close_one(is_copied ? text : &copy);
-    if (is_copied) *text = copy;
-    return is_copied;
+    while (copy >= 0 && count > 0 && length < sizeof bytes) {
+        count = read(*source, bytes + length, sizeof bytes - length);
+        if (count > 0) length += (size_t)count;
+    }
+    int error = copy < 0 || count < 0 ? errno : write_bytes(copy, bytes, length);
+    close_one(source);
+    if (error) close_one(&copy);
+    *source = copy;
+    errno = error;
 }
 
 enum cause open_file(struct file *file, const char *typed) {
@@ -284,24 +308,37 @@ enum cause open_file(struct file *file, const char *typed) {
     return cause;
 }
 
-/* Opens the folder of a name that something else than a plain file has. */
-static enum cause open_name(struct file *file, const char *typed, enum cause other) {
+/* Opens the folder of a name, without regard to what has that name. */
+static bool open_name(struct file *file, const char *typed) {
     char folder[PATH_MAX];
-    *file = (struct file){.typed = typed, .folder = -1, .itself = -1, .text = -1, .other = other};
-    if (!split(typed, folder, file->name) || !file->name[0]) return other;
+    *file = (struct file){.typed = typed, .folder = -1, .itself = -1, .text = -1};
+    errno = ENOENT;
+    if (!split(typed, folder, file->name) || !file->name[0]) return false;
     file->folder = open_folder(AT_FDCWD, folder);
-    if (file->folder < 0) return other;
+    if (file->folder < 0) return false;
     put_path(file->folder_name, "%s", folder);
     name_paths(file);
     find_id(file->folder, &file->folder_id);
-    return CAUSE_NONE;
+    return true;
+}
+
+enum cause open_new_file(struct file *file, const char *typed) {
+    struct file_stamp there;
+    if (is_folder(typed)) return CAUSE_EXISTS;
+    if (!open_name(file, typed)) return cause_of(errno);
+    if (!stamp_at(file->folder, file->name, &there)) return errno == ENAMETOOLONG ? CAUSE_NOT_PERMITTED : cause_of(errno);
+    if (there.is_there) return CAUSE_EXISTS;
+    return !file->is_at_path ? CAUSE_FOLDER_GONE : is_utf8(file->path) ? CAUSE_NONE : CAUSE_OTHER;
 }
 
 enum cause open_lost_file(struct file *file, const char *typed) {
     char above[PATH_MAX], folder[PATH_MAX];
     enum cause cause = open_file(file, typed);
     bool is_other = cause == CAUSE_FOLDER || cause == CAUSE_DEVICE || cause == CAUSE_BROKEN_LINK || cause == CAUSE_CIRCLE_OF_LINKS;
-    if (is_other) return open_name(file, typed, cause);
+    if (is_other && open_name(file, typed)) {
+        file->other = cause;
+        return CAUSE_NONE;
+    }
     if (!file->is_lost || !put_path(above, "%s", typed)) return cause;
     const char *rest = typed;
     while (file->folder < 0 && split(above, folder, file->name)) {
@@ -338,12 +375,30 @@ enum cause check_access_to(const struct file *file, bool is_in_place) {
     return file->stamp.is_there && !file->facts.writable ? CAUSE_WRITE_PROTECTED : CAUSE_NONE;
 }
 
+/* Bytes of letters that Hebrew and Arabic texts of Windows do not share. */
+struct letters {
+    size_t hebrew, arabic;
+};
+
+/* For read_pieces: counts them. */
+static void count_letters(void *context, const char *bytes, size_t size) {
+    struct letters *letters = context;
+    for (size_t at = 0; at < size; at++) {
+        unsigned char byte = (unsigned char)bytes[at];
+        letters->arabic += byte >= 0xd3 && byte <= 0xdf && byte != 0xd7;
+        letters->hebrew += byte && strchr("\xe0\xe2\xe7\xe8\xe9\xea\xeb\xee\xef\xf4\xf7\xf9", byte);
+    }
+}
+
 enum cause check_encoding(const struct file *file) {
+    struct letters letters = {0};
     char front[FRONT];
     ssize_t count = file->text >= 0 ? pread(file->text, front, sizeof front, 0) : 0;
     if (count >= 2 && (memcmp(front, "\xff\xfe", 2) == 0 || memcmp(front, "\xfe\xff", 2) == 0)) return CAUSE_UTF16;
     bool is_binary = count > 0 && ((count >= 4 && memcmp(front, "\x7f" "ELF", 4) == 0) || memchr(front, 0, (size_t)count));
-    return is_binary ? CAUSE_BINARY : CAUSE_NOT_UTF8;
+    if (is_binary) return CAUSE_BINARY;
+    if (file->text >= 0) read_pieces(file->text, 0, count_letters, &letters);
+    return letters.arabic > letters.hebrew ? CAUSE_ARABIC : CAUSE_NOT_UTF8;
 }
 
 const char *file_message(const struct file *file, enum cause cause, unsigned long long number) {

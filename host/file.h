@@ -84,10 +84,18 @@ enum cause open_file(struct file *file, const char *typed);
 /* The same for a session's FILE: its folder may be gone, and something else may be in its place. */
 enum cause open_lost_file(struct file *file, const char *typed);
 
-/* A byte order mark, which is no text. Puts a copy in memory without it in place of an open text that begins with it, and returns whether it
- * does. Without memory, and where the text is too long, the mark stays. */
+/* Opens the folder of a file that is to be made. Fails if something has its name. */
+enum cause open_new_file(struct file *file, const char *typed);
+
+/* A byte order mark, which is no text. Puts a copy in memory without it, or with it, in place of an open text that begins with it, or is to.
+ * Returns whether it did: without memory, and where the text is too long, the text stays as it is. */
 #define BYTE_ORDER_MARK "\xef\xbb\xbf"
 bool leave_out_mark(int *text);
+bool put_mark(int *text);
+
+/* Puts a copy in memory of what can be read from an open pipe or device in its place; of what is longer than the longest text, the beginning,
+ * which is longer too. -1, with errno set, at a fault. */
+void read_into_memory(int *source);
 
 /* Closes FILE once it was read and copied, but not its folder: some network disks rename a replaced file that is still open, and keep
  * it. close_file closes all. */

@@ -46,6 +46,9 @@ enum notice {
     NOTICE_IN_PLACE,
 };
 
+/* The first byte of a BEGIN that has bytes. */
+enum { BEGIN_OVER = 'o', BEGIN_AS = 'n' };
+
 /* How the program ended, by its last frame. SAVED: all is saved. UNSAVED: the input ended with unsaved changes. DROPPED: the user
  * dropped them. INPUT, OUTPUT: an error of input or output. READS: more reads than can be counted. NONE: it did not say. */
 enum end_word { END_NONE, END_SAVED, END_UNSAVED, END_DROPPED, END_INPUT, END_OUTPUT, END_READS };

@@ -4,6 +4,35 @@
 
 #include <string.h>
 
+/* The letter or digit of the key of a character; 0 for one that has none. */
+static char letter_of_key(unsigned code) {
+    /* the letters of the keys of a row of characters, a point for a key without a letter */
+    static const struct {
+        unsigned first;
+        const char *letters;
+    } rows[] = {{0x5d0, "tcdsvuzjyhlfkonibxg.p.mera"}, {0x621, "x..c.zhfmje.ponbvcsawqxzuy"}, {0x641, "tr.glki.nd"}, {0x660, "0123456789"},
+                {0x67e, "m"}, {0x6cc, "d"}, {0x6f0, "0123456789"}, {0xfefb, "b"}};
+    for (size_t at = 0; at < sizeof rows / sizeof *rows; at++) {
+        if (code < rows[at].first || code - rows[at].first >= strlen(rows[at].letters)) continue;
+        char letter = rows[at].letters[code - rows[at].first];
+        return letter == '.' ? '\0' : letter;
+    }
+    return '\0';
+}
+
+void put_letters_of_keys(char *answer) {
+    char *to = answer;
+    for (const char *at = answer; *at;) {
+        const unsigned char *bytes = (const unsigned char *)at;
+        size_t length = bytes[0] < 0xc0 || !bytes[1] ? 1 : bytes[0] < 0xe0 || !bytes[2] ? 2 : 3;
+        unsigned code = length < 3 ? (bytes[0] & 31u) << 6 | (bytes[1] & 63u) : (bytes[0] & 15u) << 12 | (bytes[1] & 63u) << 6 | (bytes[2] & 63u);
+        char letter = length > 1 ? letter_of_key(code) : '\0';
+        *to++ = letter ? letter : *at;
+        at += letter ? length : 1;
+    }
+    *to = '\0';
+}
+
 bool is_word(const char *answer, const char *word) {
     return *answer && (strcmp(answer, word) == 0 || (answer[1] == 0 && answer[0] == word[0]));
 }

@@ -15,6 +15,10 @@
 enum choice { CHOICE_NONE, CHOICE_RECOVER, CHOICE_DELETE, CHOICE_ASK_AGAIN, CHOICE_LATER };
 enum choice choice_of(const char *answer);
 
+/* Puts in place of each letter of the Hebrew, Arabic and Persian keyboard layouts the Latin letter of the same key, and of each digit of Arabic
+ * and Persian the digit of ASCII. */
+void put_letters_of_keys(char *answer);
+
 /* Whether an answer is this word or the word's first letter. */
 bool is_word(const char *answer, const char *word);
 

@@ -57,10 +57,16 @@ static enum notice cause_of_loss(const struct session *session) {
     return notice == NOTICE_FOLDER_GONE ? NOTICE_UNKEPT : notice;
 }
 
-/* A successful save replaces FILE by a new file. The session records that file, by which it is found later. */
+/* A successful save replaces FILE by a new file, maybe under a new name. The session records that file, by which it is found later. */
 static void note_saved(struct edit *edit) {
     struct file_stamp stamp;
     edit->was_saved = true;
+    if (take_new_file(edit)) {
+        edit->file.folder = edit->target.folder = open_folder(AT_FDCWD, edit->file.folder_path);
+        edit->session.about.beside[0] = 0;
+        if (edit->begin.is_nameless) put_path(edit->session.about.name, "%s", saver_new_file(&edit->saver)->raw);
+    }
+    if (session_is_none(&edit->session)) return;
     session_note_saved(&edit->session);
     if (!saver_stamp(&edit->saver, &stamp, &edit->target.id)) return;
     edit->target.is_there = stamp.is_there;
@@ -118,6 +124,8 @@ static _Noreturn void end_alone(struct session *session, int program) {
 /* The keeper's life: looks after the session each second and after each order, until the end. */
 static _Noreturn void keep(struct edit *edit, int order_file, int report, int program) {
     bool has_session = !session_is_none(&edit->session);
+    /* the host has announced FILE, and may announce another one */
+    note_open_file(NULL);
     for (char order = 0;;) {
         if (has_session && order != ORDER_END) mind(edit, report);
         struct pollfd told = {.fd = order_file, .events = POLLIN};
@@ -127,7 +135,7 @@ static _Noreturn void keep(struct edit *edit, int order_file, int report, int pr
         if (count <= 0) continue;
         if (!read_whole(order_file, &order, 1)) end_alone(&edit->session, program);
         if (order == ORDER_END) end_as_told(edit, order_file);
-        if (order == ORDER_SAVED && has_session) note_saved(edit);
+        if (order == ORDER_SAVED) note_saved(edit);
         if (order == ORDER_LOST || order == ORDER_KEPT) edit->facts.is_journal_lost = order == ORDER_LOST;
     }
 }
@@ -195,7 +203,7 @@ void keeper_hear(struct now_facts *facts) {
 /* Says why the session was not ended, and what becomes of the text. */
 static int leave_end(const struct edit *edit, const char *why) {
     enum end_word end = edit->run.said.end;
-    const char *kept = end == END_SAVED || !edit->facts.has_session ? "" : text_of("; what is kept of unsaved text: bidi-edit --recover %s", shown(edit->file.typed));
+    const char *kept = end == END_SAVED || !edit->facts.has_session ? "" : text_of("; what is kept of unsaved text: bidi-edit --recover%s", name_word(edit, edit->file.typed));
     kill_child(&keeper);
     warn("%s%s", why, kept);
     return end == END_SAVED || end == END_DROPPED ? 0 : edit->run.status;

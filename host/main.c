@@ -72,8 +72,8 @@ static int refuse(int status, const char *why) {
 
 /* ---- print: FILE's rows, which bidi_print writes */
 
-/* Returns why an open plain file is not a text; NULL if it is one, or if reading fails, which the printing program then reports. */
-static const char *check_text(const char *typed, int text) {
+/* Returns why an open text cannot be printed; NULL if it can be. */
+static const char *check_text(const char *typed, int text, bool is_plain) {
     static char bytes[LARGEST_TEXT + 1];
     static struct file file;
     ssize_t count = 1;
@@ -87,13 +87,15 @@ static const char *check_text(const char *typed, int text) {
     for (size_t i = 0; i < valid; i++) text_line += bytes[i] == '\n';
     file.typed = typed;
     file.text = text;
-    if (length > LARGEST_TEXT) return file_message(&file, CAUSE_TOO_LONG, 0);
-    return count == 0 && valid < length ? file_message(&file, check_encoding(&file), text_line) : NULL;
+    if (count < 0) return text_of("%s cannot be read: %s", shown(typed), strerror(errno));
+    if (length > LARGEST_TEXT) return is_plain ? file_message(&file, CAUSE_TOO_LONG, 0) : text_of("%s has more than the limit of %d bytes", shown(typed), LARGEST_TEXT);
+    if (valid == length) return NULL;
+    return is_plain ? file_message(&file, check_encoding(&file), text_line) : text_of("%s is not UTF-8 (line %llu)", shown(typed), text_line);
 }
 
-/* Returns why FILE cannot be printed, by its kind and permissions, and by its text; NULL if it can be. A device or pipe is accepted and not
- * opened, since its writer would see that. */
-static const char *refuse_to_print(const char *typed) {
+/* Opens FILE, or what a pipe or device gives, which is read once, and sets `text`. Returns why FILE cannot be printed, by its kind and
+ * permissions, and by its text; NULL if it can be. */
+static const char *open_printed(const char *typed, int *text) {
     struct stat look;
     const char *why = NULL;
     if (stat(typed, &look) != 0) why = "does not exist";
@@ -101,10 +103,12 @@ static const char *refuse_to_print(const char *typed) {
     else if (S_ISSOCK(look.st_mode)) why = "is a socket, not a text file";
     else if (faccessat(AT_FDCWD, typed, R_OK, AT_EACCESS) != 0) why = "cannot be read: if it is yours, chmod u+r makes it readable";
     if (why) return text_of("%s %s", shown(typed), why);
-    int text = S_ISREG(look.st_mode) ? open(typed, O_RDONLY | O_NONBLOCK | O_CLOEXEC) : -1;
-    const char *refusal = text >= 0 ? check_text(typed, text) : NULL;
-    close_one(&text);
-    return refusal;
+    bool is_plain = S_ISREG(look.st_mode);
+    *text = open(typed, O_RDONLY | O_NOCTTY | O_CLOEXEC | (is_plain ? O_NONBLOCK : 0));
+    if (*text >= 0 && !is_plain) read_into_memory(text);
+    if (*text < 0) return text_of("%s cannot be read: %s", shown(typed), strerror(errno));
+    leave_out_mark(text);
+    return check_text(typed, *text, is_plain);
 }
 
 /* The columns of a printed row, if the user gives none: those of standard output, if that is a terminal, else those of the terminal or of the
@@ -123,8 +127,9 @@ static unsigned usual_columns(void) {
 static int print_file(const struct call *call, const struct programs *programs) {
     struct tables tables;
     struct words words = {.count = 0};
+    int text = -1;
     const char *cause = find_tables(&tables, programs->tables);
-    if (!cause) cause = refuse_to_print(call->file);
+    if (!cause) cause = open_printed(call->file, &text);
     if (!cause && is_output_closed) cause = "standard output is closed";
     if (cause) return refuse(STATUS_FAULT, cause);
     add_word(&words, programs->printer);
@@ -132,7 +137,8 @@ static int print_file(const struct call *call, const struct programs *programs) 
     add_option(&words, "--direction", direction_word(call->direction));
     if (call->has_marks) add_word(&words, "--marks");
     add_tables(&words, &tables, !call->is_unjoined);
-    add_word(&words, call->file);
+    add_word(&words, link_of(text).path);
+    fcntl(text, F_SETFD, 0);
     give_back_signals();
     execv(programs->printer, words.words);
     return refuse(STATUS_FAULT, text_of("%s cannot be started: %s", programs->printer, strerror(errno)));
@@ -162,13 +168,28 @@ static void tell_unusual(const struct edit *edit) {
     if (leftovers) warn("%s", leftovers);
 }
 
+/* Reads a text from standard input. */
+static int read_piped(struct edit *edit) {
+    struct stat look;
+    const char *why = "- is standard input, and a terminal: give a text by a pipe, as in: something | bidi-edit -";
+    if (isatty(STDIN_FILENO)) return refuse(STATUS_NO, why);
+    edit->piped = fcntl(STDIN_FILENO, F_DUPFD_CLOEXEC, 3);
+    if (edit->piped >= 0) read_into_memory(&edit->piped);
+    if (edit->piped < 0 || fstat(edit->piped, &look) != 0) return refuse(STATUS_FAULT, text_of("standard input cannot be read: %s", strerror(errno)));
+    edit->has_piped_mark = leave_out_mark(&edit->piped);
+    why = check_text("-", edit->piped, false);
+    return why ? refuse(STATUS_FAULT, why) : GO_ON;
+}
+
 /* A start with FILE: FILE's checks, a terminal, FILE's earlier sessions, and then the program. After a question FILE is checked anew. */
 static int edit_file(struct edit *edit) {
-    int status = check_file(edit, edit->call->file);
+    int status = edit->call->is_piped ? read_piped(edit) : GO_ON;
+    if (status == GO_ON) status = check_file(edit, edit->call->file);
     if (status == GO_ON) status = check_terminal();
     if (status != GO_ON) return status;
     tell_unusual(edit);
-    status = meet_sessions(edit);
+    /* a session would take the place of what was read */
+    status = edit->call->is_piped ? GO_ON : meet_sessions(edit);
     if (status == TAKEN) return run_editor(edit, true);
     /* FILE may have changed meanwhile */
     if (status == ASKED) status = check_file(edit, edit->call->file);
@@ -203,7 +224,8 @@ static int edit_by(const struct call *call, const struct programs *programs) {
     int error = errno;
     if (lacking) return refuse(STATUS_FAULT, text_of("the editor needs %s, which cannot be read: %s", shown(lacking), strerror(error)));
     edit.call = call;
-    edit.lost_mode = -1;
+    edit.lost_mode = edit.piped = -1;
+    edit.is_view = call->is_view;
     edit.is_joined = !call->is_unjoined && edit.tables.joining;
     session_clear(&edit.session);
     return call->kind == CALL_EDIT ? edit_file(&edit) : edit_recovered(&edit);
@@ -227,16 +249,45 @@ static int obey(const struct call *call, const struct programs *programs) {
     if (call->kind == CALL_VERSION) return tell_version(programs);
     if (call->kind == CALL_PRINT) return print_file(call, programs);
     tell_variables();
-    if (call->kind == CALL_LIST) return list_sessions();
-    return call->kind == CALL_FORGET ? forget_sessions(call->file) : edit_by(call, programs);
+    /* a text without a name can be recovered in no other way */
+    if (call->kind == CALL_LIST && (!isatty(STDOUT_FILENO) || terminal_line < 0 || !is_only_nameless())) return list_sessions();
+    return call->kind == CALL_FORGET ? forget_sessions(call->file, call->is_sure) : edit_by(call, programs);
+}
+
+/* Reads the file of options. A line that is wrong is told, and passed over. */
+static void read_options(struct call *call) {
+    char line[4096];
+    struct stat look;
+    const char *config = variable("XDG_CONFIG_HOME"), *home = variable("HOME"), *why = NULL;
+    if (!home && (!config || *config != '/')) return;
+    const char *path = config && *config == '/' ? text_of("%s/bidi_edit/options", config) : text_of("%s/.config/bidi_edit/options", home);
+    int file = open(path, O_RDONLY | O_NONBLOCK | O_NOCTTY | O_CLOEXEC);
+    if (file < 0 && (errno == ENOENT || errno == ENOTDIR)) return;
+    if (file < 0) why = strerror(errno);
+    else if (fstat(file, &look) != 0 || !S_ISREG(look.st_mode)) why = "it is not a plain file";
+    else if (look.st_uid != geteuid() && look.st_uid != 0) why = "it belongs to another user";
+    FILE *stream = why ? NULL : fdopen(file, "r");
+    if (why) warn("the options in %s are ignored: %s", shown(path), why);
+    for (unsigned number = 1; stream && fgets(line, sizeof line, stream); number++) {
+        why = read_option(line, call);
+        if (why) warn("line %u of %s is ignored: %s", number, shown(path), why);
+    }
+    if (stream) fclose(stream);
+    else close_one(&file);
 }
 
 /* Reads the command line and obeys it. A fault of standard output, which may be a full disk, makes a success a fault. */
 static int obey_words(int count, char **words, const struct programs *programs) {
-    struct call call;
+    struct call call = {0}, kept = {0};
     const char *cause;
     int status = read_words(count, words, &call, &cause);
     if (status != 0) return refuse(status, cause);
+    bool has_options = call.kind == CALL_EDIT || call.kind == CALL_RECOVER || call.kind == CALL_LIST || call.kind == CALL_PRINT;
+    if (has_options && !call.has_no_options) {
+        read_options(&kept);
+        read_words(count, words, &kept, &cause);
+        call = kept;
+    }
     status = obey(&call, programs);
     if (status != 0 || output_fault == 0) return status;
     return refuse(STATUS_FAULT, text_of("standard output cannot be written%s", fault_words(cause_of(output_fault))));

@@ -85,11 +85,13 @@ static int settle_file(struct edit *edit, enum replayed found) {
         /* the usual opening refuses a FILE whose folder is gone */
         return edit->file.is_lost ? find_file(edit, typed, false) : check_access(edit);
     }
+    bool has_mark = edit->file.has_mark;
     edit->aside_of = typed;
     const char *beside = free_name(AT_FDCWD, typed, "recovered");
     tell("another program or window has changed %s since; the session's text is recovered as %s", shown(typed), shown(beside));
     bool is_too_long = lstat(beside, &look) != 0 && errno == ENAMETOOLONG;
     int status = is_too_long ? STATUS_FAULT : find_file(edit, beside, false);
+    edit->file.has_mark = has_mark;
     if (status == GO_ON) status = check_access(edit);
     if (status != GO_ON) warn("to store the text elsewhere: bidi-edit --recover --to OTHER %s", shown(typed));
     return status;
@@ -191,8 +193,9 @@ static const char *number_text(const struct session *session) {
 
 /* If another process of the user's has FILE open, or may have it open where that cannot be checked from here, asks whether to go on. Returns
  * GO_ON if none has, else ASKED or the exit status. */
-static int ask_beside(const struct edit *edit, const struct found *found) {
+static int ask_beside(struct edit *edit, const struct found *found) {
     static const char overwrites[] = "Each window may overwrite what the other saves.";
+    if (is_nameless(edit)) return GO_ON;
     const char *file = shown(edit->call->file);
     pid_t other = edit->file.is_lost ? 0 : note_open_file(&edit->file);
     bool is_live = !session_is_none(&found->live);
@@ -206,7 +209,9 @@ static int ask_beside(const struct edit *edit, const struct found *found) {
     else
         tell("%s may be open in another window of yours (process %s on %s, which cannot be checked from here). %s", file, number,
              machine ? machine : THIS_MACHINE, overwrites);
-    return ask_to_go_on("Edit it anyway") ? ASKED : STATUS_NO;
+    enum beside beside = ask_what_beside();
+    if (beside == BESIDE_VIEW) edit->is_view = true;
+    return beside == BESIDE_NO ? STATUS_NO : ASKED;
 }
 
 /* Deletes a session for good. If that fails, the question comes again. */
@@ -221,7 +226,8 @@ static int delete_session(const struct edit *edit, struct session *session) {
 
 /* Asks about an unfinished session, and does what the user chooses. */
 static int ask_what_to_do(struct edit *edit, struct session *session) {
-    tell("%s has an unfinished session from %s (keys typed: %zu)", shown(edit->file.typed), time_text(session), session_count_keys(session));
+    const char *file = is_nameless(edit) ? "a text without a name" : shown(edit->file.typed);
+    tell("%s has an unfinished session from %s (keys typed: %zu)", file, time_text(session), session_count_keys(session));
     switch (ask_choice()) {
     case CHOICE_RECOVER: return take_over(edit, session);
     case CHOICE_LATER: return ASKED;
@@ -318,7 +324,9 @@ static int store(struct edit *edit, const struct session *session) {
     const char *other = edit->call->other, *damage = session_damage(session);
     int text = text_to_store(edit, session);
     if (text < 0) return STATUS_FAULT;
-    enum cause cause = make_file(AT_FDCWD, other, text, session->about.mode >= 0 ? (mode_t)session->about.mode : 0600);
+    /* what a save would write */
+    enum cause cause = edit->file.has_mark && !put_mark(&text) ? CAUSE_OUT_OF_MEMORY : CAUSE_NONE;
+    if (!cause) cause = make_file(AT_FDCWD, other, text, session->about.mode >= 0 ? (mode_t)session->about.mode : 0600);
     close(text);
     if (cause) return tell_unwritten(other, cause);
     tell("the text of %s, with what was typed in the session (keys: %zu), is now in %s", shown(edit->file.typed), session_count_keys(session), shown(other));

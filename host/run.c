@@ -156,12 +156,12 @@ static void mind_answer(const struct run *run) {
     watched->has_read = taken > 0;
     if (run->hint && !live.is_hinted && taken > 0 && taken == live.given) {
         live.is_hinted = true;
-        show_last_row(run->hint, true);
+        show_last_row(run->hint, run->hint_column, true);
     }
     if (live.is_late || live.end != 0 || taken == 0 || now() < live.answered + LATE_MS) return;
     if (poll(&output, 1, 0) <= 0 || output.revents != POLLOUT) return;
     live.is_late = true;
-    show_last_row(cause_of_waiting(), false);
+    show_last_row(cause_of_waiting(), 1, false);
 }
 
 /* ---- saves */
@@ -361,7 +361,7 @@ static const char *start(struct run *run, struct pipes *ends) {
     make_words(&words, run, ends, run->rows > 0 ? run->rows : size.rows, run->rows > 0 ? run->columns : size.columns);
     /* what it reads behind its first painting tells that it has painted */
     if (run->hint) give_notice(NOTICE_NONE);
-    if (!start_watcher(live.pipes.words, run->held, run->last_line)) return "no process can be created";
+    if (!start_watcher(live.pipes.words, run->held, run->killed)) return "no process can be created";
     watched->is_changed = true;
     if (!begin_screen()) return "the terminal's settings cannot be changed";
     listen_once();

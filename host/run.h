@@ -29,9 +29,11 @@ struct run {
      * --saves, --before, --rows, --cols, --erase, --clipboard). The last argument is FILE, and NULL ends them. */
     const char *program;
     char *const *words;
-    /* The window's title; a message for the last row until a key is pressed; what the watcher says if the host is killed. The latter two may
-     * be NULL. */
-    const char *title, *hint, *last_line;
+    /* The window's title; a message for the last row until a key is pressed; FILE's name, or none, as
+     * a word behind `--recover` for what is said if the host is killed. The latter two may be NULL. */
+    const char *title, *hint, *killed;
+    /* The column of the message; in the first one it has the whole row. */
+    unsigned hint_column;
     /* The terminal is asked to report the mouse; what is copied goes to the system's clipboard too. */
     bool has_mouse, has_clipboard;
     /* For a recovered session the size of the window that it began in; else 0. */

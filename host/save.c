@@ -6,6 +6,7 @@
 #include <fcntl.h>
 #include <signal.h>
 #include <stdatomic.h>
+#include <stdio.h>
 #include <stdlib.h>
 #include <string.h>
 #include <sys/mman.h>
@@ -14,13 +15,15 @@
 
 #include "frames.h"
 #include "save_judge.h"
+#include "say.h"
 #include "util.h"
 
 /* ---- FILE and its folder, as they are now */
 
-/* Takes this for what was seen last. Only a plain file is also noted as the one whose owner and mode a new file gets. */
+/* Takes this change for what was seen last. Only a plain file is also noted as the one whose owner and mode a new file gets. */
 static void note(struct save *save, const struct file_stamp *now, int itself) {
     save->state.seen = *now;
+    save->state.is_told = true;
     if (!now->is_there || !S_ISREG(now->found.st_mode)) return;
     save->state.old = *now;
     save->state.is_old_plain = has_access_list(itself) == NO;
@@ -38,6 +41,7 @@ static enum cause look(struct save *save, int *itself) {
     struct file_stamp now;
     if (!stamp_and_open(save->folder, save->file->name, &now, itself)) return cause_of(errno);
     enum cause cause = judge_stamp(&save->state.seen, &now);
+    if (cause == CAUSE_NONE && now.is_there && save->state.is_told && !save->is_over) cause = CAUSE_CHANGED;
     save->is_there = cause == CAUSE_NONE && now.is_there;
     if (cause == CAUSE_CHANGED) note(save, &now, *itself);
     return cause;
@@ -49,8 +53,8 @@ static bool is_at_path(const struct save *save, int folder) {
     return !save->file->is_at_path || !path_of(folder, path) || strcmp(path, save->file->folder_path) == 0;
 }
 
-/* Opens the folder that the save goes to: the one that was opened, if its path still leads there, or one on the same disk that was made
- * there since. No link may lead there. */
+/* Opens the folder that the save goes to: the one that FILE was found in, if its path still leads there, or one on the same disk that was
+ * made there since. No link may lead there. */
 static enum cause find_folder(struct save *save) {
     const struct file *file = save->file;
     struct stat found;
@@ -60,19 +64,19 @@ static enum cause find_folder(struct save *save) {
     int folder = open_folder(AT_FDCWD, file->folder_path);
     if (folder < 0) return errno == ELOOP ? CAUSE_FOLDER_GONE : cause_of(errno);
     if (fstat(folder, &found) != 0 || found.st_dev != file->folder_id.device) return CAUSE_FOLDER_GONE;
-    if (found.st_ino == file->folder_id.inode) return CAUSE_NONE;
     save->folder = folder;
-    return is_at_path(save, folder) ? CAUSE_NONE : CAUSE_FOLDER_GONE;
+    return found.st_ino == file->folder_id.inode || is_at_path(save, folder) ? CAUSE_NONE : CAUSE_FOLDER_GONE;
 }
 
-/* Whether the links by which FILE was opened lead to another file by now. This makes one save fail; later saves do not follow the links. */
+/* Whether the links by which FILE was opened lead to another file by now. This is told once; later saves do not follow the links. */
 static bool leads_elsewhere(struct save *save) {
     struct stat there;
     const struct stat *seen = &save->state.seen.found;
     if (!save->file->is_linked || save->state.is_link_told || stat(save->file->typed, &there) != 0) return false;
     /* a link in FILE's own place has been reported as a change already */
-    save->state.is_link_told = !save->is_there || (!S_ISLNK(seen->st_mode) && !is_same_file(&there, seen));
-    return save->state.is_link_told;
+    if (save->is_there && (S_ISLNK(seen->st_mode) || is_same_file(&there, seen))) return false;
+    save->state.is_link_told = save->state.is_told = true;
+    return true;
 }
 
 /* Opens the folder for syncing, and locks it against other saves of the editor as long as the child lives. A folder that the user cannot
@@ -125,6 +129,66 @@ static enum cause save_text(struct save *save) {
     return save->is_in_place ? overwrite_file(save) : replace_file(save);
 }
 
+/* ---- a save under a new name */
+
+/* Writes the new file's path into the session's folder, or removes it. Without it a session that is killed right after the save is found by
+ * FILE's old name alone. */
+static void note_new_path(const struct save *save, const char *path) {
+    int folder = save->saver->lock;
+    int file = folder < 0 ? -1 : openat(folder, NEW_PATH_NAME, O_WRONLY | O_CREAT | O_TRUNC | O_NOFOLLOW | O_CLOEXEC, 0600);
+    if (file >= 0 && (write_bytes(file, path, strlen(path)) != 0 || sync_file(file) != 0 || !*path)) unlinkat(folder, NEW_PATH_NAME, 0);
+    close_one(&file);
+}
+
+/* Opens the new file's folder, and takes the new file for FILE. */
+static enum cause open_named(struct save *save) {
+    struct state *state = &save->state;
+    struct new_file *made = &state->new_file;
+    enum cause cause = open_new_file(&made->file, save->new_name);
+    if (cause != CAUSE_NONE) return cause;
+    state->has_new_file = true;
+    made->file.has_mark = save->file->has_mark;
+    snprintf(made->raw, sizeof made->raw, "%s", save->raw_name);
+    snprintf(made->typed, sizeof made->typed, "%s", save->new_name);
+    snprintf(made->shown, sizeof made->shown, "%s", shown(save->new_name));
+    snprintf(made->shown_name, sizeof made->shown_name, "%s", shown(made->file.name));
+    save->file = &made->file;
+    save->folder = made->file.folder;
+    state->seen = (struct file_stamp){.is_there = false};
+    state->is_told = state->is_mounted = state->is_torn = false;
+    state->torn[0] = 0;
+    return CAUSE_NONE;
+}
+
+/* Saves the text as a new file, which is FILE from then on. If that fails, all is as it was. */
+static enum cause save_as(struct save *save) {
+    static struct state before;
+    before = save->state;
+    enum cause cause = open_named(save);
+    if (cause == CAUSE_NONE) cause = write_draft(save);
+    if (cause == CAUSE_NONE) cause = lock_folder(save);
+    if (cause == CAUSE_NONE && !is_at_path(save, save->folder)) cause = CAUSE_FOLDER_GONE;
+    if (cause == CAUSE_NONE) {
+        note_new_path(save, save->file->path);
+        cause = replace_file(save);
+        if (cause != CAUSE_NONE) note_new_path(save, "");
+    }
+    if (cause != CAUSE_NONE) save->state = before;
+    return cause == CAUSE_CHANGED ? CAUSE_EXISTS : cause;
+}
+
+/* Takes the name that a BEGIN has. The home folder is ~, and nothing that a command line could take for an option is a name. */
+static void take_name(struct save *save, const unsigned char *bytes, size_t length) {
+    const char *own = save->saver->own_name;
+    if (*own && strlen(own) == length && memcmp(own, bytes, length) == 0) return;
+    const char *home = length > 1 && bytes[0] == '~' && bytes[1] == '/' ? variable("HOME") : NULL;
+    const char *before = home ? home : length > 0 && (bytes[0] == '-' || bytes[0] == '+') ? "./" : "";
+    size_t left = home ? 1 : 0;
+    /* a name that is too long, or has a NUL, is no name of a file */
+    bool is_name = !memchr(bytes, 0, length) && put_path(save->new_name, "%s%.*s", before, (int)(length - left), (const char *)bytes + left);
+    if (!is_name || !put_path(save->raw_name, "%.*s", (int)length, (const char *)bytes)) put_path(save->new_name, "/");
+}
+
 /* ---- the child */
 
 /* Bytes of two of the longest frames; the first room for a text. */
@@ -152,6 +216,7 @@ void save_publish(const struct save *save) {
 static _Noreturn void end(struct save *save, enum cause cause) {
     if (save->state.is_torn && strcmp(save->draft.name, BACKUP_NAME) == 0 && save->saver->backup_folder >= 0) save->draft.name[0] = 0;
     draft_remove(&save->draft);
+    if (cause == CAUSE_NONE) save->state.is_told = false;
     /* while FILE is torn and its backup is beside it, the user must know that first */
     save->state.cause = cause != CAUSE_NONE && save->state.is_torn && save->state.torn[0] ? CAUSE_CUT_OFF : cause;
     save->state.is_over = true;
@@ -179,10 +244,12 @@ static bool obey_frame(struct save *save, const struct frame *frame, int answer)
     switch (frame->letter) {
     case FRAME_BEGIN:
         save->is_cut = false;
+        save->is_over = frame->length > 0 && frame->bytes[0] == BEGIN_OVER;
+        if (frame->length > 0 && frame->bytes[0] == BEGIN_AS) take_name(save, frame->bytes + 1, frame->length - 1);
         if (save->saver->file->has_mark) add(save, (const unsigned char *)BYTE_ORDER_MARK, sizeof BYTE_ORDER_MARK - 1);
         return write_frame(answer, FRAME_DONE, NULL, 0);
     case FRAME_PIECE: add(save, frame->bytes, frame->length); return true;
-    case FRAME_COMMIT: end(save, save_text(save));
+    case FRAME_COMMIT: end(save, save->new_name[0] ? save_as(save) : save_text(save));
     default: return true;
     }
 }
@@ -217,7 +284,7 @@ static void become_child(const struct saver *saver, int request, int answer) {
 
 bool saver_open(struct saver *saver, struct file *file) {
     void *shared = mmap(NULL, sizeof(struct saved), PROT_READ | PROT_WRITE, MAP_SHARED | MAP_ANONYMOUS, -1, 0);
-    *saver = (struct saver){.file = file, .backup_folder = -1, .lock = -1, .lost_mode = -1, .answer = -1, .boot = ""};
+    *saver = (struct saver){.file = file, .backup_folder = -1, .lock = -1, .lost_mode = -1, .answer = -1, .own_name = "", .boot = ""};
     if (shared == MAP_FAILED) return false;
     saver->saved = shared;
     atomic_init(&saver->saved->current, 0);
@@ -253,6 +320,11 @@ void saver_refuse(struct saver *saver) {
 
 enum cause saver_cause(const struct saver *saver) {
     return current(saver)->cause;
+}
+
+const struct new_file *saver_new_file(const struct saver *saver) {
+    const struct state *state = current(saver);
+    return state->has_new_file ? &state->new_file : NULL;
 }
 
 bool saver_stamp(const struct saver *saver, struct file_stamp *stamp, struct file_id *id) {

@@ -2,6 +2,7 @@
 #ifndef SAVE_H
 #define SAVE_H
 
+#include <limits.h>
 #include <stdbool.h>
 #include <sys/types.h>
 
@@ -9,6 +10,13 @@
 #include "file.h"
 
 struct saved;
+
+/* A file that a save under a new name made: paths and folder, which is not open; the name as it came, and as a command line may have it; and
+ * how messages show that and its last part. */
+struct new_file {
+    struct file file;
+    char raw[PATH_MAX], typed[PATH_MAX], shown[4 * PATH_MAX], shown_name[4 * PATH_MAX];
+};
 
 struct saver {
     /* Given before the first save. Files that the child keeps open: the session's folder, if saves overwrite FILE with the backup there,
@@ -19,6 +27,8 @@ struct saver {
     int lost_mode;
     /* Saves overwrite FILE, with the backup beside it. */
     bool is_itself;
+    /* The name by which the program asks for FILE itself; empty without one. */
+    const char *own_name;
     /* What identifies this run of the system; empty if unknown. */
     const char *boot;
     /* What the saves so far left, in memory that the child writes to. */
@@ -33,6 +43,8 @@ struct saver {
 #define BACKUP_DRAFT_NAME "mark.bx"
 /* The file there that says how far a save into FILE has come (struct step). */
 #define STEP_NAME "mark.step"
+/* The path of the file that a save under a new name is about to make: if the host is killed after that, the session is found by it. */
+#define NEW_PATH_NAME "new-path"
 
 /* Prepares a saver. What it has seen of FILE last is `file` as it was opened. backup_folder, lock, lost_mode and is_itself are -1, -1, -1
  * and false, and the caller may set them. Returns false without memory. */
@@ -51,6 +63,9 @@ void saver_refuse(struct saver *saver);
 
 /* What came of the last save: CAUSE_NONE where it is on the disk. */
 enum cause saver_cause(const struct saver *saver);
+
+/* The file that saves go to since a save under a new name, which the caller has to make `file`; NULL if there was none. */
+const struct new_file *saver_new_file(const struct saver *saver);
 
 /* FILE as the last save left or found it; false where no save looked at it. */
 bool saver_stamp(const struct saver *saver, struct file_stamp *stamp, struct file_id *id);

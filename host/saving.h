@@ -27,6 +27,10 @@ struct state {
      * says all of its permissions. */
     struct file_stamp seen, old;
     bool is_old_plain;
+    /* What was seen last is another program's, and the user was told of it: only a save that was told to may overwrite it. */
+    bool is_told;
+    bool has_new_file;
+    struct new_file new_file;
     /* FILE is a mount, so it is overwritten in place. */
     bool is_mounted;
     /* The user was told that FILE's links lead elsewhere. */
@@ -54,8 +58,10 @@ struct save {
     struct draft draft;
     /* The file in the session's folder that says how far the overwriting of FILE has come; -1 without one. */
     int step;
-    /* FILE is there, as it was last seen; it is to be overwritten; it has no access list. */
-    bool is_there, is_in_place, is_listless;
+    /* FILE is there, as it was last seen; it is to be overwritten; it has no access list. What was told may be overwritten. */
+    bool is_there, is_in_place, is_listless, is_over;
+    /* The name of the new file that the save makes, and as it came; empty if it goes to FILE. */
+    char new_name[PATH_MAX], raw_name[PATH_MAX];
 };
 
 /* ---- save.c */

@@ -151,6 +151,8 @@ static void read_about(struct session *session) {
     char *bytes = read_short(session->folder, ABOUT_NAME, &size);
     if (bytes) about_read(&session->about, bytes, size);
     else old_about(session->folder, &session->about);
+    bytes = read_short(session->folder, NEW_PATH_NAME, NULL);
+    if (bytes) put_path(session->about.new_path, "%s", bytes);
 }
 
 /* Opens the folder of this name. */

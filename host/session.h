@@ -249,16 +249,16 @@ void walk_end(struct walk *walk);
 /* Removes all sessions with dropped changes except this one, of whatever file. */
 void sessions_forget_dropped(const struct sessions *sessions, const struct session *except);
 
-/* What is reported of a session that was removed, or could not be (`cause`). */
+/* What is reported of a session that is to be removed (`is_asked`), was removed, or could not be (`cause`). */
 struct forgotten {
     const char *path;
-    bool has_time, was_dropped;
+    bool has_time, was_dropped, is_asked;
     struct timespec changed;
     enum cause cause;
 };
 /* Removes the sessions of a file, or of all files if `target` is NULL, except those that an editor has open here or on another
- * machine. Calls `tell` for each that had unsaved text. */
-void sessions_forget(const struct sessions *sessions, const struct target *target, void (*tell)(void *, const struct forgotten *),
+ * machine. Calls `tell` for each that had unsaved text; without `removes` it only does that. */
+void sessions_forget(const struct sessions *sessions, const struct target *target, bool removes, void (*tell)(void *, const struct forgotten *),
                      void *context);
 
 /* ---- repairs after an interrupted save that overwrote FILE (mend.c) */

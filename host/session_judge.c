@@ -57,13 +57,23 @@ bool begin_of(const char *words, struct begin *begin) {
     begin->rows = (unsigned)rows;
     begin->cols = (unsigned)cols;
     begin->line = (unsigned)line;
+    begin->spaces = 0;
+    begin->is_view = begin->is_indented = begin->is_nameless = false;
+    while (take_word(&words, last, sizeof last)) {
+        if (last[0] >= '1' && last[0] <= '8' && !last[1]) begin->spaces = (unsigned)(last[0] - '0');
+        if (strcmp(last, "view") == 0) begin->is_view = true;
+        if (strcmp(last, "indent") == 0) begin->is_indented = true;
+        if (strcmp(last, "no-name") == 0) begin->is_nameless = true;
+    }
     return true;
 }
 
 void words_of_begin(const struct begin *begin, char words[MOST_WORDS]) {
     char line[16] = "-";
     if (begin->line > 0) snprintf(line, sizeof line, "%u", begin->line);
-    snprintf(words, MOST_WORDS, "%u %u %s %s\n", begin->rows, begin->cols, begin->direction, line);
+    char spaces[] = {' ', (char)('0' + begin->spaces % 10), '\0'};
+    snprintf(words, MOST_WORDS, "%u %u %s %s%s%s%s%s\n", begin->rows, begin->cols, begin->direction, line, begin->spaces ? spaces : "",
+             begin->is_view ? " view" : "", begin->is_indented ? " indent" : "", begin->is_nameless ? " no-name" : "");
 }
 
 bool file_id_of(const char *words, struct file_id *id) {
@@ -200,6 +210,7 @@ size_t about_write(const struct about *about, char *words, size_t room) {
     put(&writing, "bidi-edit session 1\n");
     put_name(&writing, "path", about->path);
     put_name(&writing, "beside", about->beside);
+    put_name(&writing, "name", about->name);
     words_of_file_id(&about->id, value);
     if (about->has_id) put(&writing, "file %s", value);
     if (about->mode >= 0) put(&writing, "mode %03o\n", (unsigned)about->mode);
@@ -256,6 +267,7 @@ static unsigned marks_of(const char *line) {
 static void read_line(struct about *about, const char *line) {
     if (take_key(&line, "path")) take_name(line, about->path);
     else if (take_key(&line, "beside")) take_name(line, about->beside);
+    else if (take_key(&line, "name")) take_name(line, about->name);
     else if (take_key(&line, "file")) about->has_id = file_id_of(line, &about->id);
     else if (take_key(&line, "mode")) about->mode = (int)mode_of(line);
     else if (take_key(&line, "begin")) about->has_begin = begin_of(line, &about->begin);

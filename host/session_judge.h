@@ -13,13 +13,16 @@
 /* The most bytes of one fact that is a word or more, and of the whole file. */
 enum { MOST_WORDS = 1024, MOST_ABOUT = 65536 };
 
-/* The first window, direction and line of a session. */
+/* With what a session began: window, direction, line and options, on which a replay of its keys depends. */
 struct begin {
     unsigned rows, cols;
     /* The word auto, ltr or rtl. */
     char direction[8];
     /* From 1; 0 for the first line. */
     unsigned line;
+    /* The blanks of a tab, 0 for a tab itself; the text cannot be changed; new lines are indented; the text had no name. */
+    unsigned spaces;
+    bool is_view, is_indented, is_nameless;
 };
 bool begin_of(const char *words, struct begin *begin);
 void words_of_begin(const struct begin *begin, char words[MOST_WORDS]);
@@ -72,8 +75,13 @@ enum mark { MARK_DROPPED = 1, MARK_CUT = 2, MARK_UNSAVED = 4, MARK_UNJOINED = 8,
 
 /* All facts of a session. */
 struct about {
-    /* FILE's path; and that of the file beside FILE to which a recovered text is saved, or empty. Both are absolute and without links. */
+    /* FILE's path, / for a text without a name; and that of the file beside FILE to which a recovered text is saved, or empty. Both are
+     * absolute and without links. */
     char path[PATH_MAX], beside[PATH_MAX];
+    /* The path of a new file that a save was about to make, which is no fact of `about`; empty if there is none. */
+    char new_path[PATH_MAX];
+    /* The name, as it was typed, under which a text without a name was saved; empty if there is none. */
+    char name[PATH_MAX];
     /* FILE as it was opened or saved last. */
     bool has_id;
     struct file_id id;

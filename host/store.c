@@ -208,7 +208,7 @@ static enum belonging belonging_of(const struct session *session, const struct t
     struct stat found;
     const struct about *about = &session->about;
     struct belonging_facts facts = {.is_path = strcmp(about->path, target->path) == 0,
-                                    .is_beside = about->beside[0] && strcmp(about->beside, target->path) == 0,
+                                    .is_beside = strcmp(about->beside, target->path) == 0 || strcmp(about->new_path, target->path) == 0,
                                     .is_file = session_is_of_file(session, target)};
     facts.has_beside = facts.is_path && about->beside[0] && lstat(about->beside, &found) == 0;
     return judge_belonging(&facts);
@@ -272,7 +272,7 @@ void sessions_forget_dropped(const struct sessions *sessions, const struct sessi
     walk_end(&walk);
 }
 
-void sessions_forget(const struct sessions *sessions, const struct target *target, void (*tell)(void *, const struct forgotten *),
+void sessions_forget(const struct sessions *sessions, const struct target *target, bool removes, void (*tell)(void *, const struct forgotten *),
                      void *context) {
     struct walk walk;
     walk_begin(&walk, sessions);
@@ -281,8 +281,10 @@ void sessions_forget(const struct sessions *sessions, const struct target *targe
         if (target && belonging_of(session, target) == BELONGS_NOT) continue;
         enum session_state state = session_state(session);
         if (state == SESSION_LIVE || state == SESSION_ELSEWHERE) continue;
-        struct forgotten forgotten = {.path = session->about.path, .was_dropped = state == SESSION_DROPPED};
+        struct forgotten forgotten = {.path = session->about.path, .was_dropped = state == SESSION_DROPPED, .is_asked = !removes};
         forgotten.has_time = session_changed(session, &forgotten.changed);
+        if (!removes && state != SESSION_EMPTY) tell(context, &forgotten);
+        if (!removes) continue;
         /* another start may have it by now */
         enum lock_result lock = session_lock(session);
         if (lock == LOCK_TAKEN) forgotten.cause = session_remove(session);

@@ -286,12 +286,13 @@ void ring(void) {
     show("\a");
 }
 
-void show_last_row(const char *message, bool keeps_cursor) {
+void show_last_row(const char *message, unsigned column, bool keeps_cursor) {
     char text[256];
     struct size size;
     measure(&size);
-    snprintf(text, sizeof text, "%s\033[%u;1H\033[0m\033[K%.*s%s", keeps_cursor ? "\0337" : "", size.rows, (int)size.columns - 1, message,
-             keeps_cursor ? "\0338" : "");
+    if (column >= size.columns) return;
+    snprintf(text, sizeof text, "%s\033[%u;%uH\033[0m%s%.*s%s", keeps_cursor ? "\0337" : "", size.rows, column, column == 1 ? "\033[K" : "",
+             (int)(size.columns - column), message, keeps_cursor ? "\0338" : "");
     show(text);
 }
 

@@ -2,6 +2,7 @@
 #ifndef TERMINAL_H
 #define TERMINAL_H
 
+#include <limits.h>
 #include <pthread.h>
 #include <stdbool.h>
 #include <stddef.h>
@@ -66,8 +67,9 @@ void restore_screen(int64_t limit, bool ends_pastes);
 void leave_screen(int64_t limit);
 void enter_screen(void);
 
-/* Shows a message in the last row, in place of what the program painted there. The cursor stays behind it, unless `keeps_cursor`. */
-void show_last_row(const char *message, bool keeps_cursor);
+/* Shows a message in the last row, from a column on, over what the program painted there; from the first one on in place of all of it. The
+ * cursor stays behind it, unless `keeps_cursor`. */
+void show_last_row(const char *message, unsigned column, bool keeps_cursor);
 
 /* Whether sequences wait to be written to the terminal; writes as much as it takes. A sequence for which there is no room is dropped. */
 bool is_showing(void);
@@ -99,6 +101,8 @@ struct watched {
     volatile bool is_changed, has_read;
     volatile pid_t program, saver;
     struct paste paste;
+    /* What is said once the terminal is restored. */
+    char line[4 * PATH_MAX + 128];
 };
 
 extern struct watched *watched;
@@ -110,8 +114,12 @@ extern pid_t watcher;
 void note_own_word(char *word);
 
 /* Starts the watcher. It reads the program's pipe `words`, whose end tells it that the program has ended. Until then it holds the session's
- * folder and lock (-1 without a session). It says `line`, if that is not NULL, once it has restored the terminal. */
-bool start_watcher(int words, const int held[2], const char *line);
+ * folder and lock (-1 without a session). Once it has restored the terminal, it says how the session is recovered, with this word
+ * for FILE, if that is not NULL. */
+bool start_watcher(int words, const int held[2], const char *file);
+
+/* Changes the word that it says. */
+void put_last_line(const char *file);
 
 /* Kills the watcher, once the host itself has restored the terminal. */
 void end_watcher(void);

@@ -68,15 +68,15 @@ static bool has_painted_all(void) {
 }
 
 /* Restores the screen, and says the line. A shell that has taken the terminal meanwhile has asked for marked pastes, and keeps them. */
-static void restore(const char *line, bool is_left_to_shell) {
+static void restore(bool is_left_to_shell) {
     restore_screen(TTY_RESTORE_MS, !is_left_to_shell);
-    if (line) write_within(terminal_line, line, strlen(line), TTY_RESTORE_MS, true);
+    write_within(terminal_line, watched->line, strnlen(watched->line, sizeof watched->line), TTY_RESTORE_MS, true);
 }
 
 /* The watcher's life: waits for the host's end, then restores the terminal if the host did not, and ends the program and its save. A shell
  * shows its prompt at the same time: if no painting can follow, the screen is restored at once, so that the prompt mostly comes behind
  * that. */
-static _Noreturn void watch(int words, pid_t host, const char *line) {
+static _Noreturn void watch(int words, pid_t host) {
     /* the kernel releases a dead process's lock before it tells the parent; without a lock, this looks for the host again and again */
     if (pthread_mutex_lock(&watched->life) != EOWNERDEAD)
         while (getppid() == host) poll(NULL, 0, WATCH_MS);
@@ -88,10 +88,10 @@ static _Noreturn void watch(int words, pid_t host, const char *line) {
     bool is_ours = is_changed && is_raw();
     /* at once, since a shell sets its own settings now; if it has, they stay */
     if (is_ours) restore_settings();
-    if (is_quiet) restore(line, !is_ours && has_other_settings());
+    if (is_quiet) restore(!is_ours && has_other_settings());
     if (is_paste) tcflow(terminal_line, TCOON);
     if (!ends_before(words, start + GRACE_MS) && watched->program > 0) kill(watched->program, SIGKILL);
-    if (is_changed && !is_quiet) restore(line, has_other_settings());
+    if (is_changed && !is_quiet) restore(has_other_settings());
     /* a save ends soon, since its pipe has ended with the program */
     while (watched->saver > 0 && now() < start + SAVE_MS && kill(watched->saver, 0) == 0) poll(NULL, 0, WATCH_MS);
     if (watched->saver > 0) kill(watched->saver, SIGKILL);
@@ -111,7 +111,7 @@ static bool share(void) {
 
 /* Becomes the watcher. It closes all descriptors that it does not need, since others may wait for the end of a pipe or for FILE to be closed. No
  * signal but SIGKILL can end it. */
-static _Noreturn void become_watcher(int words, const int held[2], const char *line, pid_t host) {
+static _Noreturn void become_watcher(int words, const int held[2], pid_t host) {
     const int kept[] = {words, terminal_line, held[0], held[1]};
     sigset_t mask;
     sigfillset(&mask);
@@ -120,19 +120,24 @@ static _Noreturn void become_watcher(int words, const int held[2], const char *l
     /* a process without a controlling terminal is never stopped for being in the background */
     ioctl(terminal_line, TIOCNOTTY);
     close_others(kept, sizeof kept / sizeof *kept);
-    watch(words, host, line);
+    watch(words, host);
+}
+
+void put_last_line(const char *file) {
+    snprintf(watched->line, sizeof watched->line, "bidi-edit was killed: bidi-edit --recover%s restores unsaved text\n", file);
 }
 
 /* Users kill processes by the host's name, so the watcher never has that name. */
-bool start_watcher(int words, const int held[2], const char *line) {
+bool start_watcher(int words, const int held[2], const char *file) {
     static const char name[] = "bidi-watcher";
     char before[16];
     pid_t host = getpid();
     if (!share()) return false;
+    if (file) put_last_line(file);
     prctl(PR_GET_NAME, before);
     take_name(name, name);
     watcher = fork();
-    if (watcher == 0) become_watcher(words, held, line, host);
+    if (watcher == 0) become_watcher(words, held, host);
     take_name(before, own_name);
     if (watcher < 0) watcher = 0;
     /* in a process group of its own before the terminal changes, so that a kill of the whole job spares it */

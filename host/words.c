@@ -16,8 +16,8 @@
 static const unsigned long last_line = LARGEST_TEXT + 1, too_large = 100000000;
 
 #define USAGE                                                                                                                     \
-    "usage: bidi-edit [--direction auto|ltr|rtl] [--line N | +N] [--force] FILE\n"                                                \
-    "       bidi-edit --recover [[--to OTHER] FILE] | --forget [FILE]"
+    "usage: bidi-edit [--direction auto|ltr|rtl] [--line N | +N] [--view] [FILE | -]\n"                                            \
+    "       bidi-edit --recover [[--to OTHER] FILE] | --forget [--yes] [FILE]"
 
 static const char usage[] = USAGE;
 static const char print_usage[] =
@@ -25,19 +25,19 @@ static const char print_usage[] =
 
 /* At most 23 lines of at most 80 columns, which a window of 24 rows shows with the shell's next prompt. */
 const char help_text[] = USAGE "\n"
-    "       bidi-edit --print FILE [--cols N] [--marks]: its rows to standard output\n"
-    "Ctrl-S saves, Ctrl-Q quits, F1 shows the main keys. The manual: man bidi-edit\n"
-    "--force opens a FILE that cannot be saved, -n keeps no copy of unsaved text,\n"
-    "--no-joining leaves letters unjoined, --no-mouse, --no-clipboard turn these off.\n"
+    "       bidi-edit --print FILE [--cols N] [--marks]   (the manual: man bidi-edit)\n"
+    "- edits what comes from a pipe. --view only shows the text, --force opens a FILE\n"
+    "that cannot be saved, -n keeps no copy of unsaved text, --tab N types blanks for\n"
+    "a tab. --no-indent, --no-joining, --no-mouse, --no-clipboard turn these off.\n"
     "--recover restores or lists unsaved text, --to stores it, --forget deletes it.\n"
     "\n"
     "  Arrow keys            move as the screen shows; Ctrl-Left, Ctrl-Right by words\n"
     "  Alt-Left Alt-Right    back, forward in stored order; Ctrl-G to a line: 12:5\n"
     "  Home End Page Up/Down start, end of the row (with Ctrl: of the text); a window\n"
     "  Backspace Delete      erase before, at the cursor; with Ctrl: by words\n"
-    "  Ctrl-S Ctrl-Q F1 F2   save; quit (F10 too; twice if unsaved); keys, direction\n"
-    "  Ctrl-Z Ctrl-Y Ctrl-L  undo; redo; repaint the screen\n"
-    "  Ctrl-Space or Ctrl-@  mark a region; Shift with a move, or the mouse, selects\n"
+    "  Ctrl-S Ctrl-O Ctrl-Q  save; under another name; quit (F10; twice if unsaved)\n"
+    "  Ctrl-Z Ctrl-Y F1 F2   undo; redo; the main keys; direction (Ctrl-L repaints)\n"
+    "  Ctrl-Space, Ctrl-@    mark; Shift with a move or the mouse selects; Ctrl-A all\n"
     "  Ctrl-X Ctrl-C Ctrl-V  cut, copy the selection, or else the line; paste\n"
     "  Ctrl-F Ctrl-B F3 F4   find forward, back, next; replace; Escape cancels\n"
     "  Ctrl-K Ctrl-T         insert a character listed below; character info\n"
@@ -53,6 +53,9 @@ const char *direction_word(enum direction direction) {
     return directions[direction];
 }
 
+/* The most blanks of a tab. */
+enum { WIDEST_TAB = 8 };
+
 /* The state of parsing. `cause` is NULL until an argument is refused. */
 struct reading {
     struct call *call;
@@ -60,7 +63,9 @@ struct reading {
     bool is_recovery, is_forgetting, is_print;
 };
 
-enum option { DIRECTION, LINE, OTHER, COLUMNS, FORCED, UNKEPT, UNJOINED, NO_MOUSE, NO_CLIPBOARD, RECOVER, FORGET, MARKS, PRINT, IGNORED };
+enum option {
+    DIRECTION, LINE, TAB, OTHER, COLUMNS, FORCED, UNKEPT, UNJOINED, NO_MOUSE, NO_CLIPBOARD, NO_INDENT, VIEW, NO_OPTIONS, SURE, RECOVER, FORGET, MARKS, PRINT, IGNORED
+};
 
 /* The options, which may stand before FILE, or with --print. The ignored ones are of other editors: no new window, wait for the end. */
 static const struct {
@@ -69,6 +74,9 @@ static const struct {
     bool is_edit, is_print, has_value;
 } options[] = {{"--direction", DIRECTION, true, true, true}, {"--line", LINE, true, false, true},
                {"--to", OTHER, true, false, true}, {"--cols", COLUMNS, false, true, true},
+               {"--tab", TAB, true, false, true}, {"--no-indent", NO_INDENT, true, false, false},
+               {"--view", VIEW, true, false, false}, {"--no-options", NO_OPTIONS, true, true, false},
+               {"--yes", SURE, true, false, false},
                {"--force", FORCED, true, false, false}, {"-n", UNKEPT, true, false, false},
                {"--no-joining", UNJOINED, true, true, false}, {"--no-mouse", NO_MOUSE, true, false, false},
                {"--no-clipboard", NO_CLIPBOARD, true, false, false}, {"--recover", RECOVER, true, false, false},
@@ -110,6 +118,10 @@ static void take_value(struct reading *reading, enum option option, const char *
             reading->cause = text_of("--cols needs a number from 1 to 500, not %s", shown(value));
         call->columns = (unsigned)number;
         break;
+    case TAB:
+        if (!is_number || number < 1 || number > WIDEST_TAB) reading->cause = text_of("--tab needs a number from 1 to 8, not %s", shown(value));
+        call->spaces = (unsigned)number;
+        break;
     default:
         if (!*value) reading->cause = "the name of OTHER is empty";
         reading->other = value;
@@ -126,6 +138,10 @@ static void take_switch(struct reading *reading, enum option option) {
     case UNJOINED: call->is_unjoined = true; break;
     case NO_MOUSE: call->has_no_mouse = true; break;
     case NO_CLIPBOARD: call->has_no_clipboard = true; break;
+    case NO_INDENT: call->has_no_indent = true; break;
+    case VIEW: call->is_view = true; break;
+    case NO_OPTIONS: call->has_no_options = true; break;
+    case SURE: call->is_sure = true; break;
     case RECOVER: reading->is_recovery = true; break;
     case FORGET: reading->is_forgetting = true; break;
     case MARKS: call->has_marks = true; break;
@@ -162,13 +178,11 @@ static void take_plus(struct call *call, const char *word) {
     else if (line_of_digits(word, strcspn(word, ",:"), &line)) call->line = line <= 1 ? 0 : line;
 }
 
-/* Takes FILE's name, of `count` words that are left. A second one, an empty one, and - for standard input are refused; --print reads -. */
+/* Takes FILE's name, of `count` words that are left. A second one, and an empty one are refused; - is standard input. */
 static void take_file(struct reading *reading, const char *word, int count) {
     if (reading->file) reading->cause = "only one FILE can be given";
     else if (!reading->is_print && count > 1) reading->cause = "only one FILE can be given, after the options";
     else if (!*word) reading->cause = "the name of FILE is empty";
-    else if (strcmp(word, "-") == 0 && !reading->is_print)
-        reading->cause = "- is standard input, not a file: write the input to a file, and edit that (./- names a file -)";
     else reading->file = word;
 }
 
@@ -178,8 +192,10 @@ static void settle(struct reading *reading) {
     if (reading->is_print) kind = CALL_PRINT;
     else if (reading->is_recovery && reading->is_forgetting) reading->cause = "--recover and --forget cannot be combined";
     else if (reading->other && reading->file && !reading->is_recovery) reading->cause = "--to needs --recover";
+    else if (reading->call->is_sure && kind != CALL_FORGET) reading->cause = "--yes needs --forget";
+    else if (kind != CALL_EDIT && reading->file && strcmp(reading->file, "-") == 0) reading->cause = "- is standard input, not a file (./- names a file -)";
     if (kind == CALL_RECOVER && !reading->file && !reading->other) kind = CALL_LIST;
-    bool needs_file = kind == CALL_EDIT || kind == CALL_RECOVER || kind == CALL_PRINT || reading->other;
+    bool needs_file = kind == CALL_RECOVER || kind == CALL_PRINT || reading->other;
     if (needs_file && !reading->file && !reading->cause) reading->cause = "FILE is missing";
     reading->call->kind = kind;
 }
@@ -215,7 +231,7 @@ static const char *word_path(const char *word) {
 
 int read_words(int count, char *const *words, struct call *call, const char **cause) {
     struct reading reading = {.call = call};
-    *call = (struct call){.kind = CALL_EDIT};
+    call->kind = CALL_EDIT;
     take_words(&reading, count, words);
     if (reading.cause) {
         *cause = text_of("%s\n%s", reading.cause, reading.is_print ? print_usage : usage);
@@ -227,9 +243,30 @@ int read_words(int count, char *const *words, struct call *call, const char **ca
         *cause = text_of("%s has a name that is not UTF-8: rename it with mv", shown(names[i]));
         return STATUS_FAULT;
     }
-    if (reading.file) call->file = reading.is_print && strcmp(reading.file, "-") == 0 ? "/dev/stdin" : word_path(reading.file);
+    call->is_piped = reading.file && strcmp(reading.file, "-") == 0;
+    if (call->is_piped) call->file = reading.is_print ? "/dev/stdin" : NULL;
+    else if (reading.file) call->file = word_path(reading.file);
     if (reading.other) call->other = word_path(reading.other);
     return 0;
+}
+
+const char *read_option(char *line, struct call *call) {
+    static const char blanks[] = " \t\r\n";
+    struct call read = *call;
+    struct reading reading = {.call = &read};
+    char *words[] = {line + strspn(line, blanks), NULL};
+    size_t length = strcspn(words[0], blanks);
+    if (length == 0 || words[0][0] == '#') return NULL;
+    int count = words[0][length] && words[0][length + strspn(words[0] + length, blanks)] ? 2 : 1;
+    words[1] = words[0] + length + strspn(words[0] + length, blanks);
+    words[0][length] = 0;
+    for (length = strlen(words[1]); length > 0 && strchr(blanks, words[1][length - 1]);) words[1][--length] = 0;
+    int taken = take_option(&reading, count, words);
+    bool is_other = reading.is_recovery || reading.is_forgetting || reading.is_print || reading.other || read.is_sure || read.has_no_options;
+    if (!reading.cause && is_other) reading.cause = text_of("%s is only for the command line", words[0]);
+    if (!reading.cause && taken < count) reading.cause = text_of("%s takes no value", words[0]);
+    if (!reading.cause) *call = read;
+    return reading.cause;
 }
 
 const char *beginning(const char *path) {

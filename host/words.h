@@ -25,8 +25,11 @@ enum call_kind { CALL_HELP, CALL_VERSION, CALL_PRINT, CALL_LIST, CALL_FORGET, CA
 /* What a command line asks for. */
 struct call {
     enum call_kind kind;
-    /* FILE's path, with ./ before it if it begins as an option; NULL for a list, or to forget all sessions; /dev/stdin to print -. */
+    /* FILE's path, with ./ before it if it begins as an option; NULL for a list, to forget all sessions, or to edit a text without a name;
+     * /dev/stdin to print -. */
     const char *file;
+    /* The text without a name is read from standard input. */
+    bool is_piped;
     /* Where a recovered text is stored; NULL to go on with the session. */
     const char *other;
     enum direction direction;
@@ -36,13 +39,22 @@ struct call {
     bool is_forced, is_unkept, is_unjoined;
     /* The mouse is the terminal's alone; copied text goes to no clipboard of the system. */
     bool has_no_mouse, has_no_clipboard;
+    /* The text cannot be changed; new lines are not indented; the blanks that a tab key makes, 0 for a tab. */
+    bool is_view, has_no_indent;
+    unsigned spaces;
+    /* What is deleted is not asked about; the file of options is not read. */
+    bool is_sure, has_no_options;
     /* Of printing: the columns of a row, 0 for the terminal's; marks are printed. */
     unsigned columns;
     bool has_marks;
 };
 
-/* Parses the command line, without the program's name. Returns 0; or an exit status, with the message in `cause`. */
+/* Parses the command line, without the program's name, over what `call` has already. Returns 0; or an exit status, with the message in
+ * `cause`. */
 int read_words(int count, char *const *words, struct call *call, const char **cause);
+
+/* Parses a line of the file of options, which it changes. Returns NULL, or why the line is passed over. */
+const char *read_option(char *line, struct call *call);
 
 extern const char help_text[];
 

@@ -254,7 +254,7 @@ def printing(check, tree):
     """The printing program, and texts into pipes that nobody reads, or that are full."""
     environment = {**os.environ, **tree.variables()}
     told = subprocess.run([tree.host, '--print', '/dev/null', '--cols', '40'], stdout=subprocess.PIPE, stdin=subprocess.DEVNULL, env=environment)
-    check.holds('printing: words', told.returncode == 0 and told.stdout.startswith(b'printed <--cols> <40>') and b'</dev/null>' in told.stdout, told)
+    check.holds('printing: words', told.returncode == 0 and told.stdout.startswith(b'printed <--cols> <40>') and told.stdout.endswith(b'>\n'), told)
     with subprocess.Popen([tree.host, '--help'], stdout=subprocess.PIPE, start_new_session=True, env=environment) as told:
         told.stdout.close()
         check.holds('printing: a pipe that nobody reads', told.wait(5) in (0, 1), told.returncode)
@@ -266,7 +266,7 @@ def printing(check, tree):
 
 
 def printed_rows(check, tree):
-    """The columns of printed rows, printing standard input, and a pipe whose writer is not to see that it is looked at."""
+    """The columns of printed rows, printing standard input, and pipes, which are read once."""
     environment = {**os.environ, **tree.variables()}
     environment.pop('COLUMNS', None)
     for more, columns in (({}, b'80'), ({'COLUMNS': '66'}, b'66'), ({'COLUMNS': '0'}, b'80'), ({'COLUMNS': '9999'}, b'500'), ({'COLUMNS': 'x'}, b'80')):
@@ -279,14 +279,15 @@ def printed_rows(check, tree):
         check.holds(f'columns on a terminal: {words}', b'<--cols> <91>' in run.output, run.output)
         run.close()
     told = subprocess.run([tree.host, '--print', '-'], stdin=subprocess.DEVNULL, stdout=subprocess.PIPE, env=environment)
-    check.holds('standard input', told.returncode == 0 and b'</dev/stdin>' in told.stdout, told)
+    check.holds('standard input', told.returncode == 0 and told.stdout.endswith(b'>\n'), told)
     os.mkfifo(tree.file('pipe'))
     with subprocess.Popen(['sh', '-c', 'echo text >"$0"', tree.file('pipe')]) as writer:
-        time.sleep(0.2)
         told = subprocess.run([tree.host, '--print', tree.file('pipe')], stdout=subprocess.PIPE, env=environment)
-        check.holds('a pipe', told.returncode == 0 and writer.poll() is None, told)
-        with open(tree.file('pipe'), 'rb') as pipe:
-            check.same('what is in the pipe', pipe.read(), b'text\n')
+        check.holds('a pipe', told.returncode == 0 and told.stdout.endswith(b'>\ntext\n') and writer.wait(HANG) == 0, told)
+    for text, status, output in ((b'\xef\xbb\xbf' + b'x' * 100000, 0, b'>\n' + b'x' * 100000), (b'x' * 16777217, 1, b'/dev/stdin has more than the limit of 16777216 bytes\n'),
+                                 (b'a\n\xff', 1, b'/dev/stdin is not UTF-8 (line 2): '), (b'\0\xff', 1, b'/dev/stdin is a binary file')):
+        told = subprocess.run([tree.host, '--print', '-'], input=text, stdout=subprocess.PIPE, stderr=subprocess.STDOUT, env=environment)
+        check.holds(f'a pipe with {len(text)} bytes', told.returncode == status and output in told.stdout, (told.returncode, told.stdout[:200]))
 
 
 def deaf_programs(check, tree):

@@ -31,6 +31,25 @@ static const struct {
     bool is_word;
 } words[] = {{"y", "yes", true}, {"yes", "yes", true}, {"", "yes", false}, {"ye", "yes", false}, {"n", "yes", false}, {"yess", "yes", false}};
 
+/* Answers as other keyboard layouts type them, and what they stand for. */
+static const char *const keys[][2] = {
+    {"\u05d8", "y"}, {"\u063a", "y"}, {"\u05de", "n"}, {"\u0649", "n"}, {"\u062f", "n"}, {"\u05d4", "v"}, {"\u0631", "v"}, {"\u05d2", "d"},
+    {"\u064a", "d"}, {"\u06cc", "d"}, {"\u05e8", "r"}, {"\u0642", "r"}, {"\u05da", "l"}, {"\u0645", "l"}, {"\u05dd", "o"}, {"\u062e", "o"},
+    {"\u05dc", "k"}, {"\u0646", "k"}, {"\u05e7", "e"}, {"\u062b", "e"}, {"\ufefb", "b"}, {"\u067e", "m"}, {"\u0667", "7"}, {"\u06f7", "7"},
+    {"\u05d2\u05e7\u05da\u05e7\u05d0\u05e7", "delete"}, {"\u064a\u062b\u0645\u062b\u0641\u062b", "delete"}, {"\u05d8es", "yes"},
+    {"", ""}, {"yes", "yes"}, {"\u05ea", "\u05ea"}, {"\u0643", "\u0643"}, {"\u00e9", "\u00e9"}, {"\u4e16", "\u4e16"}, {"\U0001f600", "\U0001f600"},
+    {"\xd7", "\xd7"}, {"\xef\xbb", "\xef\xbb"}, {"\xff\xff", "\xff\xff"},
+};
+
+static void check_keys(void) {
+    for (size_t at = 0; at < sizeof keys / sizeof *keys; at++) {
+        char answer[64];
+        snprintf(answer, sizeof answer, "%s", keys[at][0]);
+        put_letters_of_keys(answer);
+        same(keys[at][0], strcmp(answer, keys[at][1]), 0);
+    }
+}
+
 static const struct {
     int error;
     enum notice notice;
@@ -123,6 +142,7 @@ static void check_all_fates(void) {
 }
 
 int main(void) {
+    check_keys();
     for (size_t i = 0; i < sizeof answers / sizeof *answers; i++) same(answers[i].answer, (int)choice_of(answers[i].answer), (int)answers[i].choice);
     for (size_t i = 0; i < sizeof words / sizeof *words; i++) same(words[i].answer, is_word(words[i].answer, words[i].word), words[i].is_word);
     for (size_t i = 0; i < sizeof errors / sizeof *errors; i++) {

@@ -35,6 +35,10 @@ static void check_begins(void) {
         {"24 80 auto -", true, {24, 80, "auto", 0}, "24 80 auto -\n"},
         {" 1\t500 ltr\n-\nmore", true, {1, 500, "ltr", 0}, "1 500 ltr -\n"},
         {"4294967295 1 ltr 4294967295", true, {4294967295U, 1, "ltr", 4294967295U}, "4294967295 1 ltr 4294967295\n"},
+        {"24 80 auto - 4 view indent no-name", true, {24, 80, "auto", 0, .spaces = 4, .is_view = true, .is_indented = true, .is_nameless = true},
+         "24 80 auto - 4 view indent no-name\n"},
+        {"24 80 auto 7 indent", true, {24, 80, "auto", 7, .is_indented = true}, "24 80 auto 7 indent\n"},
+        {"24 80 auto 7 9 0 88", true, {24, 80, "auto", 7}, "24 80 auto 7\n"},
         {"", false, {0}, ""},
         {"24 80", false, {0}, ""},
         {"24 80 up -", false, {0}, ""},
@@ -54,6 +58,8 @@ static void check_begins(void) {
         const struct begin *wanted = &cases[at].begin;
         check(begin.rows == wanted->rows && begin.cols == wanted->cols && begin.line == wanted->line, "begin's numbers", cases[at].words);
         check_words("begin's direction", begin.direction, wanted->direction);
+        check(begin.spaces == wanted->spaces && begin.is_view == wanted->is_view && begin.is_indented == wanted->is_indented &&
+                  begin.is_nameless == wanted->is_nameless, "begin's options", cases[at].words);
         words_of_begin(&begin, words);
         check_words("begin again", words, cases[at].again);
     }

@@ -68,8 +68,24 @@ static const char *const calls[][2] = {
     {"-n --help --bad", "help"},
     {"-h", "help"},
     {"--version", "version"},
-    {"", "2 FILE is missing"},
-    {"--line 5", "2 FILE is missing"},
+    {"", "edit - auto"},
+    {"--line 5", "edit - auto 5"},
+    {"-", "edit - auto piped"},
+    {"-- -", "edit - auto piped"},
+    {"--view --tab 4 --no-indent note", "edit note auto view unindented tab 4"},
+    {"--tab=8 --no-options", "edit - auto tab 8 optionless"},
+    {"--forget --yes", "forget sure"},
+    {"--yes --forget note", "forget note sure"},
+    {"--print --no-options note", "print note auto"},
+    {"--tab 9 note", "2 --tab needs a number from 1 to 8, not 9"},
+    {"--tab 0", "2 --tab needs a number from 1 to 8, not 0"},
+    {"--tab= note", "2 --tab needs a number from 1 to 8, not ''"},
+    {"--tab", "2 --tab needs a value"},
+    {"--yes note", "2 --yes needs --forget"},
+    {"--recover --yes", "2 --yes needs --forget"},
+    {"--forget -", "2 - is standard input, not a file (./- names a file -)"},
+    {"- note", "2 only one FILE can be given, after the options"},
+    {"--print note --view", "2 --print does not take --view"},
     {"one two", "2 only one FILE can be given, after the options"},
     {"one --force", "2 only one FILE can be given, after the options"},
     {"-- one two", "2 only one FILE can be given, after the options"},
@@ -111,8 +127,8 @@ static const char *const calls[][2] = {
     {"--print ~", "2 the name of FILE is empty"},
     {"--print -", "print /dev/stdin auto"},
     {"--print --marks - --cols 7", "print /dev/stdin auto 7 marks"},
-    {"-", "2 - is standard input, not a file: write the input to a file, and edit that (./- names a file -)"},
-    {"--recover -", "2 - is standard input, not a file: write the input to a file, and edit that (./- names a file -)"},
+    {"--recover -", "2 - is standard input, not a file (./- names a file -)"},
+    {"--recover --to o -", "2 - is standard input, not a file (./- names a file -)"},
     {"--print -- f g", "2 only one FILE can be given"},
     {"--print f -- g", "2 only one FILE can be given"},
     {"f\377", "1 $'f\\377' has a name that is not UTF-8: rename it with mv"},
@@ -122,9 +138,12 @@ static const char *const calls[][2] = {
 
 static const char *options_of(const struct call *call) {
     const char *line = call->line ? text_of(" %lu", call->line) : "";
-    return text_of("%s%s%s%s%s%s%s", direction_word(call->direction), line, call->is_forced ? " forced" : "",
+    const char *more = text_of("%s%s%s%s%s", call->is_view ? " view" : "", call->has_no_indent ? " unindented" : "",
+                               call->spaces ? text_of(" tab %u", call->spaces) : "", call->is_piped ? " piped" : "",
+                               call->has_no_options ? " optionless" : "");
+    return text_of("%s%s%s%s%s%s%s%s", direction_word(call->direction), line, call->is_forced ? " forced" : "",
                    call->is_unkept ? " unkept" : "", call->is_unjoined ? " unjoined" : "", call->has_no_mouse ? " no-mouse" : "",
-                   call->has_no_clipboard ? " no-clipboard" : "");
+                   call->has_no_clipboard ? " no-clipboard" : "", more);
 }
 
 static const char *text_of_call(const struct call *call) {
@@ -133,8 +152,8 @@ static const char *text_of_call(const struct call *call) {
     case CALL_HELP: return "help";
     case CALL_VERSION: return "version";
     case CALL_LIST: return "list";
-    case CALL_FORGET: return call->file ? text_of("forget %s", call->file) : "forget";
-    case CALL_EDIT: return text_of("edit %s %s", call->file, options_of(call));
+    case CALL_FORGET: return text_of("forget%s%s%s", call->file ? " " : "", call->file ? call->file : "", call->is_sure ? " sure" : "");
+    case CALL_EDIT: return text_of("edit %s %s", call->file ? call->file : "-", options_of(call));
     case CALL_RECOVER:
         return text_of("recover %s%s%s %s", call->file, call->other ? " to " : "", call->other ? call->other : "", options_of(call));
     case CALL_PRINT:
@@ -151,10 +170,44 @@ static const char *answer(const char *line) {
         if (strcmp(word, "~") == 0) *word = 0;
         words[count++] = word;
     }
-    struct call call;
+    struct call call = {0};
     const char *cause = "";
     int status = read_words(count, words, &call, &cause);
     return status == 0 ? text_of_call(&call) : text_of("%d %.*s", status, (int)strcspn(cause, "\n"), cause);
+}
+
+/* Lines of the file of options, and what they ask for, or why they are passed over. */
+static const char *const lines[][2] = {
+    {"", "auto"},
+    {" \t\n", "auto"},
+    {"# --bad", "auto"},
+    {"  #\n", "auto"},
+    {"--tab 4\n", "auto tab 4"},
+    {"\t--tab=4 \r\n", "auto tab 4"},
+    {"--direction  rtl", "rtl"},
+    {"--no-mouse", "auto no-mouse"},
+    {"--line 7", "auto 7"},
+    {"--tab", "--tab needs a value"},
+    {"--tab 4 5", "--tab needs a number from 1 to 8, not '4 5'"},
+    {"--no-mouse yes", "--no-mouse takes no value"},
+    {"note", "unknown option note"},
+    {"--bad", "unknown option --bad"},
+    {"--cols 7", "unknown option --cols"},
+    {"--recover", "--recover is only for the command line"},
+    {"--forget", "--forget is only for the command line"},
+    {"--yes", "--yes is only for the command line"},
+    {"--print", "--print is only for the command line"},
+    {"--to o", "--to is only for the command line"},
+    {"--no-options", "--no-options is only for the command line"},
+    {"-", "unknown option -"},
+    {"--", "unknown option --"},
+    {"--help", "unknown option --help"},
+};
+
+static const char *answer_to_line(const char *line) {
+    struct call call = {0};
+    const char *why = read_option(text_of("%s", line), &call);
+    return why ? why : options_of(&call);
 }
 
 static const char *const names[][2] = {
@@ -209,6 +262,7 @@ static void check_help(void) {
 
 int main(void) {
     for (size_t i = 0; i < sizeof calls / sizeof *calls; i++) same(calls[i][0], answer(calls[i][0]), calls[i][1]);
+    for (size_t i = 0; i < sizeof lines / sizeof *lines; i++) same(lines[i][0], answer_to_line(lines[i][0]), lines[i][1]);
     for (size_t i = 0; i < sizeof names / sizeof *names; i++) same(names[i][1], shown(names[i][0]), names[i][1]);
     for (size_t i = 0; i < sizeof versions / sizeof *versions; i++) check_version(versions[i][0], versions[i][1]);
     same("no file of classes", version_text("a kit", "/nowhere/x"), "bidi-edit " EDITOR_VERSION "\ntoolchain a kit\nUnicode unknown\n");

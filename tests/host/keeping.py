@@ -3,12 +3,13 @@ begin so. Exit status 1: a case failed."""
 import os, shutil, signal, sys
 HERE = os.path.dirname(os.path.abspath(__file__))
 sys.path.insert(0, HERE)
-import keeping_cases, keeping_ends, keeping_files, keeping_stalls
+import keeping_cases, keeping_ends, keeping_files, keeping_names, keeping_stalls
 from checks import Report, lasting_folder, share, try_case
 from keeping_scene import Place
 from terminals import become_reaper
+from tree import PRINTER, write
 
-CASES = {case.__name__: case for case in keeping_cases.CASES + keeping_ends.CASES + keeping_files.CASES + keeping_stalls.CASES}
+CASES = {case.__name__: case for case in keeping_cases.CASES + keeping_ends.CASES + keeping_files.CASES + keeping_names.CASES + keeping_stalls.CASES}
 
 
 def install(folder, host):
@@ -17,9 +18,7 @@ def install(folder, host):
         os.makedirs(f'{folder}/{name}')
     shutil.copy2(host, f'{folder}/bin/bidi-edit')
     shutil.copy2(f'{HERE}/typist.py', f'{folder}/lib/bidi_edit/bidi_edit')
-    with open(f'{folder}/lib/bidi_edit/bidi_print', 'w') as file:
-        file.write('#!/bin/sh\nprintf " <%s>" "$@"\necho\n')
-    os.chmod(f'{folder}/lib/bidi_edit/bidi_print', 0o755)
+    write(f'{folder}/lib/bidi_edit/bidi_print', PRINTER)
     with open(f'{folder}/lib/bidi_edit/kit', 'w') as file:
         file.write('some kit\n')
     # a copy, since another user may have no access to this checkout

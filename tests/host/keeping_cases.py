@@ -15,7 +15,7 @@ def told_words(check, place):
     check.holds('--help', status == 0 and out.startswith('usage: bidi-edit ') and not err, found)
     check.same('--version', place.tells('--version'), (0, f'bidi-edit {VERSION}\ntoolchain some kit\nUnicode 15.0.0\n', ''))
     found = status, out, err = place.tells()
-    check.holds('no word', status == 2 and err.startswith('bidi-edit: FILE is missing\nusage: ') and not out, found)
+    check.holds('no word', status == 2 and err.startswith('bidi-edit: there is no terminal') and not out, found)
     for words in (['--help'], ['--version'], ['--forget']):
         found = place.tells(*words, redirection='>/dev/full')
         check.same(f'{words} into a full disk', found, (1, '', 'bidi-edit: standard output cannot be written: no space\n'))
@@ -40,7 +40,7 @@ def refusals(check, place):
     check.same('no tables', place.tells('a.txt', BIDI_EDIT_DATA='.'), (1, '', told))
     place.put('latin', b'ok\n\xe9\n')
     err = place.start('latin').ends(1).err()
-    check.holds('not UTF-8', err.startswith('bidi-edit: latin is not UTF-8 (line 2): if it is') and 'kept' not in err, err)
+    check.holds('not UTF-8', err.startswith('bidi-edit: latin is not UTF-8 (line 2). If it is') and 'kept' not in err, err)
     check.same('sessions', place.sessions(), [])
 
 
@@ -55,7 +55,7 @@ def a_session(check, place):
     check.same('the text', place.part('text'), b'text\n')
     check.same('its files', sorted(os.listdir(place.sessions()[0])), ['about', 'journal', 'text'])
     check.same('the path', place.fact('path'), place.path('a.txt'))
-    check.same('the begin', place.fact('begin'), '24 80 auto -')
+    check.same('the begin', place.fact('begin'), '24 80 auto - indent')
     check.same('the mode', place.fact('mode'), '644')
     check.same('the folder\'s mode', oct(stat.S_IMODE(os.stat(place.sessions()[0]).st_mode)), oct(0o700))
     started.type(QUIT).ends(0)
@@ -70,7 +70,7 @@ def keys_are_kept(check, place):
     check.same('what is told', started.err(),
                'bidi_edit: input ended before saving\nbidi-edit: unsaved text is kept: bidi-edit --recover a.txt restores it\n')
     check.same('the snapshot', place.part('snapshot'), b'abctext\n')
-    check.same('the journal', place.part('journal'), b'abc')
+    check.same('the journal', place.part('journal'), b'\x1b[>0~abc')
     found = status, out, err = place.tells('--recover')
     is_listed = re.fullmatch(rf'\d{{4}}-\d\d-\d\d \d\d:\d\d  keys: 3  KB: \d+  {place.path("a.txt")}\n', out)
     check.holds('the list', status == 0 and not err and is_listed, found)
@@ -97,7 +97,7 @@ def questions(check, place):
     check.same('the number of sessions after Later', len(place.sessions()), 1)
     started = place.start('a.txt').answers(CHOICE, ' R ').sees(b'text <abctext|> *').sees(b'notice 7')
     check.holds('the words of a replay', '--replay' in started.words(), started.words())
-    check.same('the journal', place.part('journal'), b'abc\x13\x1b[8;24;80t\x1b[>7~')
+    check.same('the journal', place.part('journal'), b'\x1b[>0~abc\x13\x1b[8;24;80t\x1b[>7~')
     os.kill(started.run.job, signal.SIGHUP)
     started.ends(-signal.SIGHUP)
     place.start('a.txt').answers(CHOICE, 'delete').sees(b'text <text|>').type(QUIT).ends(0)
@@ -139,12 +139,12 @@ def dropped(check, place):
     found = place.tells('--recover')
     check.holds('the list', '(dropped)' in found[1], found)
     place.start('--recover', 'a.txt').sees(b'text <abc>').type(QUIT).ends(0)
-    found = status, out, _ = place.tells('--forget', 'a.txt')
+    found = status, out, _ = place.tells('--forget', '--yes', 'a.txt')
     check.holds('forgotten', status == 0 and re.fullmatch(r'bidi-edit: the session of \S+/a.txt from .* is deleted \(dropped\)\n', out), found)
     check.same('sessions', place.sessions(), [])
-    check.same('nothing to forget', place.tells('--forget'), (0, 'bidi-edit: there are no sessions to delete\n', ''))
+    check.same('nothing to forget', place.tells('--forget', '--yes'), (0, 'bidi-edit: there are no sessions to delete\n', ''))
     check.same('nothing to recover', place.tells('--recover'), (0, 'bidi-edit: there are no sessions to recover\n', ''))
-    check.same('nothing of FILE to forget', place.tells('--forget', 'a b'), (0, "bidi-edit: there is no session of 'a b' to delete\n", ''))
+    check.same('nothing of FILE to forget', place.tells('--forget', '--yes', 'a b'), (0, "bidi-edit: there is no session of 'a b' to delete\n", ''))
     check.same('nothing of FILE to recover', place.tells('--recover', '--to', 'o', 'a.txt'),
                (1, '', 'bidi-edit: there is no session of a.txt to recover\n'))
 
@@ -163,7 +163,7 @@ def live(check, place):
     place.put('a.txt', b'text\n')
     os.link(place.path('a.txt'), place.path('b.txt'))
     first = place.edit('a.txt')
-    question = b'Edit it anyway (yes, no)? '
+    question = b'Edit it anyway (yes, no, view)? '
     for name in ('a.txt', 'b.txt'):
         second = place.start(name).answers(question, 'maybe').answers(question, 'no').ends(2)
         told = f'bidi-edit: {name} is already open in another window of yours (process {first.run.job}). Each window may overwrite what the other saves.\n'
@@ -177,12 +177,12 @@ def without_a_session(check, place):
     """A start that keeps no session is seen by others all the same, and no file is made."""
     place.put('a.txt', b'text\n')
     first = place.edit('-n', 'a.txt')
-    out = place.start('a.txt').answers(b'Edit it anyway (yes, no)? ', 'no').ends(2).out()
+    out = place.start('a.txt').answers(b'Edit it anyway (yes, no, view)? ', 'no').ends(2).out()
     check.holds('what others are told', f'a.txt is already open in another window of yours (process {first.run.job}). ' in out, out)
     check.holds('no folder is made', not os.path.exists(f'{place.top}/home/.local'))
     check.same('what is told', first.err(), 'bidi-edit: unsaved text is not kept, since -n was given\n')
     first.type(b'abc').sees(b'*').type(SAVE).sees(b'saved')
-    place.start('-n', 'a.txt').answers(b'Edit it anyway (yes, no)? ', 'no').ends(2)
+    place.start('-n', 'a.txt').answers(b'Edit it anyway (yes, no, view)? ', 'no').ends(2)
     first.type(QUIT).ends(0)
     place.edit('a.txt').type(QUIT).ends(0)
 
@@ -220,7 +220,7 @@ def cannot_be_replayed(check, place):
     out = place.start('--recover', 'a.txt').answers(REST, 'keep').sees(b'text <text|>').type(QUIT).ends(0).out()
     check.same('sessions after Keep', place.sessions(), [])
     check.holds('what is told of the keys', 'a.txt.session-journal: the keys\n' in out, out)
-    for part, wanted in (('journal', b'abc'), ('text', b'text\n'), ('snapshot', b'abctext\n')):
+    for part, wanted in (('journal', b'\x1b[>0~abc'), ('text', b'text\n'), ('snapshot', b'abctext\n')):
         check.same(f'the kept {part}', place.text(f'a.txt.session-{part}'), wanted)
     place.leave()
     place.put_fact('begin', 'nonsense')
@@ -249,7 +249,7 @@ def replay_that_fails(check, place):
     check.same('what is told', started.err(), told)
     check.same('a recovery elsewhere', place.tells('--recover', '--to', 'o', 'a.txt', TYPIST='replay-dies'), (1, '', told))
     check.holds('nothing is stored', not os.path.exists(place.path('o')))
-    check.same('the journal', place.part('journal'), b'abc')
+    check.same('the journal', place.part('journal'), b'\x1b[>0~abc')
     # at the end the session stays, without a replay that dies or takes long
     for way in ('replay-dies', 'replay-hangs'):
         started = place.start('a.txt', TYPIST=way).answers(CHOICE, 'later').sees(b'text <').type(b'x').sees(b'*')
@@ -352,7 +352,7 @@ def damaged(check, place):
     place.put('a.txt', b'text\n')
     sure = b'Recover it anyway (yes, no)? '
     about = None
-    for name, bytes_, why in (('journal', b'abd', 'its keys have changed'), ('text', b'tex!\n', 'its text has changed'),
+    for name, bytes_, why in (('journal', b'\x1b[>0~abd', 'its keys have changed'), ('text', b'tex!\n', 'its text has changed'),
                               ('journal', b'', 'keys are missing'), ('about', None, 'its file about has changed')):
         place.leave()
         about = place.part('about')
@@ -364,7 +364,7 @@ def damaged(check, place):
         check.holds(f'{why}: stored', found[0] == 1 and found[1].endswith(told), found)
         os.unlink(place.path('o'))
         place.start('a.txt').answers(CHOICE, 'r').answers(sure, 'yes').sees(b'text <').type(QUIT).ends(0)
-        place.tells('--forget')
+        place.tells('--forget', '--yes')
         check.same(f'{why}: sessions', place.sessions(), [])
 
 
@@ -427,9 +427,9 @@ def dead_disk(check, place):
         place.put_fact('beside', place.path('dead/note.recovered'))
         place.edit('b.txt').type(QUIT).ends(0)
         place.edit('-n', 'b.txt').type(QUIT).ends(0)
-        check.same('--forget', place.tells('--forget', 'b.txt')[0], 0)
+        check.same('--forget', place.tells('--forget', '--yes', 'b.txt')[0], 0)
         check.same('the number of sessions', len(place.sessions()), 1)
-        check.same('--forget of all', place.tells('--forget')[0], 0)
+        check.same('--forget of all', place.tells('--forget', '--yes')[0], 0)
         check.same('sessions', place.sessions(), [])
     finally:
         server.stdin.close()
@@ -465,7 +465,7 @@ def elsewhere(check, place):
     place.put('a.txt', b'text\n')
     place.leave()
     place.put_fact('process', '1 elsewhere 11111111-1111')
-    out = place.start('a.txt').answers(b'Edit it anyway (yes, no)? ', 'no').ends(2).out()
+    out = place.start('a.txt').answers(b'Edit it anyway (yes, no, view)? ', 'no').ends(2).out()
     told = 'bidi-edit: a.txt may be open in another window of yours (process 1 on elsewhere, which cannot be checked from here). '
     check.holds('what is told', out.startswith(told), out)
     found = place.tells('--recover')
@@ -500,7 +500,7 @@ def lost_folder(check, place):
     started = place.start('--recover', 'd/a.txt').ends(1)
     check.same('what is told', started.err(), 'bidi-edit: the folder d does not exist: mkdir -p d creates it\n')
     check.same('the number of sessions', len(place.sessions()), 1)
-    found = place.tells('--forget', 'd/a.txt')
+    found = place.tells('--forget', '--yes', 'd/a.txt')
     check.holds('forgotten', found[1].endswith(' is deleted\n'), found)
     check.same('sessions', place.sessions(), [])
 
@@ -510,12 +510,16 @@ def printing(check, place):
     place.put('a.txt', b'text\n')
     place.put('latin', b'a\n\xe9')
     status, out, _ = place.tells('--print', 'a.txt')
-    words = ' <--cols> <80> <--direction> <auto> <--classes> '
-    check.holds('the program\'s words', status == 0 and out.startswith(words) and out.endswith(' <a.txt>\n'), (status, out))
+    words = 'printed <--cols> <80> <--direction> <auto> <--classes> '
+    check.holds('the program\'s words and text', status == 0 and out.startswith(words) and out.endswith('>\ntext\n'), (status, out))
+    place.put('marked', b'\xef\xbb\xbftext\n')
+    for name, redirection in (('marked', ''), ('-', '<marked')):
+        status, out, _ = place.tells('--print', name, redirection=redirection)
+        check.same(f'without a byte order mark: {name}', (status, out.split('>\n')[1]), (0, 'text\n'))
     check.same('no file', place.tells('--print', 'none'), (1, '', 'bidi-edit: none does not exist\n'))
     check.same('a folder', place.tells('--print', '.'), (1, '', 'bidi-edit: . is a folder: name a file in it\n'))
     found = place.tells('--print', 'latin')
-    check.holds('not UTF-8', found[2].startswith('bidi-edit: latin is not UTF-8 (line 2): '), found)
+    check.holds('not UTF-8', found[2].startswith('bidi-edit: latin is not UTF-8 (line 2). If it is Hebrew text'), found)
 
 
 def byte_order_mark(check, place):
@@ -529,7 +533,7 @@ def byte_order_mark(check, place):
         check.same('sessions', place.sessions(), [])
     place.put('a.txt', mark + b'one\n')
     place.leave()
-    recovers(check, place, 'a.txt', b'abcone\n')
+    recovers(check, place, 'a.txt', mark + b'abcone\n')
     place.start('a.txt').answers(CHOICE, 'r').sees(b'text <abcone|>').type(SAVE).sees(b'saved').type(QUIT).ends(0)
     check.same('FILE after a recovery', place.text('a.txt'), mark + b'abcone\n')
     place.edit('a.txt').type(b'x').sees(b'*').type(QUIT).ends(0)
@@ -548,7 +552,7 @@ def not_plain_by_now(check, place):
         found = place.start('--recover', 'a.txt').ends(1)
         check.holds(f'{name}: told', 'bidi-edit --recover --to OTHER a.txt' in found.err(), found.err())
         recovers(check, place, 'a.txt', b'abctext\n')
-        found = place.tells('--forget', 'a.txt')
+        found = place.tells('--forget', '--yes', 'a.txt')
         check.holds(f'{name}: forgotten', found[0] == 0 and found[1].endswith('is deleted\n'), found)
         (os.rmdir if name == 'folder' else os.unlink)(place.path('a.txt'))
 

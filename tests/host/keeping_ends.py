@@ -101,7 +101,7 @@ def parts_gone(check, place):
         os.unlink(f'{folder}/{name}')
         started.sees(b'notice 2').type(b'd').sees(b'<abcdtext')
         check.holds(f'{name}: the title', started.run.pump(HANG, b'<abcdtext'), started.run.output)
-        place.start('a.txt').answers(b'Edit it anyway (yes, no)? ', 'no').ends(2)
+        place.start('a.txt').answers(b'Edit it anyway (yes, no, view)? ', 'no').ends(2)
         os.kill(started.run.job, signal.SIGTERM)
         started.ends(-signal.SIGTERM)
         told = f'any unsaved text is lost, since something has removed files from {folder}\n'
@@ -152,7 +152,7 @@ def folder_renamed(check, place):
         told = f'unsaved text is kept in {place.sessions()[0]}: bidi-edit --recover {place.path("e/a.txt")} restores it\n'
         check.holds('what is told', told in started.err(), started.err())
         recovers(check, place, 'e/a.txt', b'abc' + (b'text\n' if is_there else b''))
-        found = place.tells('--forget', 'e/a.txt')
+        found = place.tells('--forget', '--yes', 'e/a.txt')
         check.holds('forgotten', found[1].endswith('is deleted\n'), found)
         shutil.rmtree(place.path('e'))
 
@@ -249,7 +249,7 @@ def slow_syncs(check, place):
         name = meanwhile.__name__ if meanwhile else 'just after the start'
         check.holds(f'what is told {name}', 'unsaved text is kept: ' in started.err(), started.err())
         recovers(check, place, 'a.txt', text)
-        place.tells('--forget')
+        place.tells('--forget', '--yes')
         check.same(f'sessions {name}', place.sessions(), [])
 
 

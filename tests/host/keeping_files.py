@@ -15,8 +15,8 @@ def forgets(check, place):
     place.edit('b.txt').type(b'abc').sees(b'*').type(QUIT).ends(0)
     live = place.edit('c.txt').type(b'abc').sees(b'*')
     time.sleep(0.3)
-    check.same('a live one', place.tells('--forget', 'c.txt'), (0, 'bidi-edit: there is no session of c.txt to delete\n', ''))
-    found = status, out, err = place.tells('--forget')
+    check.same('a live one', place.tells('--forget', '--yes', 'c.txt'), (0, 'bidi-edit: there is no session of c.txt to delete\n', ''))
+    found = status, out, err = place.tells('--forget', '--yes')
     told = ''.join(sorted(out.splitlines(True)))
     wanted = (rf'bidi-edit: the session of {place.path("a.txt")} from \S+ \S+ is deleted\n'
               rf'bidi-edit: the session of {place.path("b.txt")} from \S+ \S+ is deleted \(dropped\)\n')
@@ -78,7 +78,7 @@ def renamed(check, place):
     for name in ('c.txt', 'd.txt'):
         if name == 'd.txt':
             os.rename(place.path('a.txt'), place.path('d.txt'))
-        second = place.start(name).answers(b'Edit it anyway (yes, no)? ', 'no').ends(2)
+        second = place.start(name).answers(b'Edit it anyway (yes, no, view)? ', 'no').ends(2)
         check.holds('what is told', f'{name} is already open in another window of yours' in second.out(), second.out())
     first.type(QUIT).ends(0)
 
@@ -104,7 +104,7 @@ def torn(check, place):
         told = 'bidi-edit: a save of b.txt was interrupted; its whole text has been restored\n'
         check.holds('what is told', started.err().startswith(told), started.err())
         check.same('FILE', place.text('b.txt'), b'abcdtext\n')
-        place.tells('--forget')
+        place.tells('--forget', '--yes')
         for name in glob.glob(place.path('*')):
             os.unlink(name)
 
@@ -137,7 +137,7 @@ def cut_by_another(check, place):
         check.holds('what is told', told in found.err(), found.err())
         check.same('FILE', place.text('a.txt'), left)
         check.same('the text of the save', place.part('save'), b'abctext\n')
-        place.tells('--forget')
+        place.tells('--forget', '--yes')
         for name in glob.glob(place.path('*')):
             os.unlink(name)
 
@@ -163,7 +163,7 @@ def emptied_by_save(check, place):
         told = f'bidi-edit: a save of {name} was interrupted; its whole text has been restored\n'
         check.holds('what is told', found.err().startswith(told), found.err())
         check.same('FILE', place.text('a.txt'), b'abctext\n')
-        place.tells('--forget')
+        place.tells('--forget', '--yes')
         for path in glob.glob(place.path('*')):
             os.unlink(path)
 
@@ -239,7 +239,7 @@ def read_only_disk(check, place):
         cannot = f'bidi-edit: the session of a.txt in {place.sessions()[0]} cannot be deleted: read-only disk\n'
         other = f'bidi-edit: nothing can be written in {disk}: read-only disk. To store the text elsewhere: bidi-edit --recover --to OTHER a.txt\n'
         check.same('what is told', started.err(), cannot + other)
-        found = status, out, err = place.tells('--forget')
+        found = status, out, err = place.tells('--forget', '--yes')
         check.holds('forgotten', status == 1 and err.endswith(' cannot be deleted: read-only disk\n') and not out, found)
         recovers(check, place, 'a.txt', b'abctext\n')
     finally:

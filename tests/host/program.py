@@ -19,7 +19,7 @@ QUIT, SAVE = 0x11, 0x13
 LARGEST = 16777216  # bytes of a text
 WAYS = set(os.environ.get('STAND_IN', '').split(','))
 # What the host says without a value of its own.
-SWITCHES = {'--frames', '--new', '--unsaved', '--clipboard'}
+SWITCHES = {'--frames', '--new', '--unsaved', '--clipboard', '--view', '--indent'}
 
 
 def put(file, bytes_):

@@ -1,8 +1,11 @@
 /* save_driver [--backup FOLDER] [--itself] [--lost] [--force] [--mode OCTAL] FILE: plays the program's side of saves, for the checks of saves. It opens FILE as
  * the editor does, says `opened PATH` or the refusal, and obeys lines of standard input, each with a line of answer:
  *   save PATH      saves the bytes of a file: `saved`, or the cause
+ *   over PATH      the same, over the change that was told last
+ *   as PATH NAME   the same, under a new name
  *   begin          the first part of a save alone; then `put PATH`, and `commit`
  *   look           tells FILE's stamp: device, inode, size
+ *   file           FILE's path
  *   torn           the name of the backup, `-` without one, `=` for the one in the folder
  *   facts          reason for saves in place
  *   make PATH      makes the new file PATH.copy, with the bytes of PATH and the mode 640
@@ -44,7 +47,7 @@ static bool read_frame(int file, unsigned char *room, struct frame *frame) {
 /* The words of causes, by number. */
 static const char *const causes[] = {
     "saved", "no space", "not permitted", "folder gone", "read-only disk", "file too large", "out of memory", "file changed on disk",
-    "not a plain file", "file cut off", "disk error",
+    "not a plain file", "file cut off", "disk error", "file exists",
 };
 
 static struct file file;
@@ -83,7 +86,7 @@ static const char *hear(void) {
     is_killed = false;
     if (!read_frame(from_child, room, &frame)) return "no answer";
     if (frame.letter == FRAME_DONE) return causes[0];
-    if (frame.letter != FRAME_FAILED || frame.length != 1 || room[0] > CAUSE_OTHER) return "wrong answer";
+    if (frame.letter != FRAME_FAILED || frame.length != 1 || room[0] > CAUSE_EXISTS) return "wrong answer";
     return causes[room[0]];
 }
 
@@ -100,8 +103,8 @@ static void send(enum frame_letter letter, const void *bytes, size_t length) {
     }
 }
 
-static const char *begin(void) {
-    send(FRAME_BEGIN, NULL, 0);
+static const char *begin(const char *bytes) {
+    send(FRAME_BEGIN, bytes, strlen(bytes));
     return hear();
 }
 
@@ -114,16 +117,32 @@ static void put(const char *path) {
     close(from);
 }
 
+/* After a save under a new name, FILE is the new file, as for the host. */
 static const char *commit(void) {
     send(FRAME_COMMIT, NULL, 0);
-    return hear();
+    const char *said = hear();
+    const struct new_file *made = saver_new_file(&saver);
+    if (made && strcmp(made->file.path, file.path) != 0) {
+        file = made->file;
+        file.typed = made->typed;
+        file.folder = file.itself = file.text = -1;
+    }
+    return said;
 }
 
-static const char *save(const char *path) {
-    const char *said = begin();
+static const char *save(const char *path, const char *bytes) {
+    const char *said = begin(bytes);
     if (strcmp(said, causes[0]) != 0) return said;
     put(path);
     return commit();
+}
+
+static const char *save_as(char *words) {
+    char bytes[8192];
+    char *name = strchr(words, ' ');
+    *name++ = 0;
+    snprintf(bytes, sizeof bytes, "n%s", name);
+    return save(words, bytes);
 }
 
 static const char *torn(void) {
@@ -146,8 +165,11 @@ static void obey(char *line) {
     line[strcspn(line, "\n")] = 0;
     const char *said = "?";
     char text[256];
-    if (strncmp(line, "save ", 5) == 0) said = save(line + 5);
-    else if (strcmp(line, "begin") == 0) said = begin();
+    if (strncmp(line, "save ", 5) == 0) said = save(line + 5, "");
+    else if (strncmp(line, "over ", 5) == 0) said = save(line + 5, "o");
+    else if (strncmp(line, "as ", 3) == 0) said = save_as(line + 3);
+    else if (strcmp(line, "begin") == 0) said = begin("");
+    else if (strcmp(line, "file") == 0) said = file.path;
     else if (strncmp(line, "put ", 4) == 0) put(line + 4), said = "put";
     else if (strcmp(line, "commit") == 0) said = commit();
     else if (strcmp(line, "torn") == 0) said = torn();

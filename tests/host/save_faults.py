@@ -12,6 +12,7 @@ import subprocess
 import sys
 import tempfile
 
+import save_names
 import save_paths
 from checks import Report, Skipped, needs, try_case
 from save_scene import OTHER, Place, is_old, mode_of, open_file, read, set_list, slow, top, wait_until_late, write
@@ -27,7 +28,7 @@ def link_in_place(check, place):
     os.remove(place.note)
     os.symlink("secret", place.note)
     check.same("the first save", editor.save("new\n"), "file changed on disk")
-    check.same("the second save", editor.save("new\n"), "saved")
+    check.same("the save that is told to go over it", editor.over("new\n"), "saved")
     check.same("the other file", read(secret), "secret\n")
     check.same("whether FILE is a link", os.path.islink(place.note), False)
     check.same("FILE", read(place.note), "new\n")
@@ -44,7 +45,7 @@ def link_behind_a_link(check, place):
     os.remove(real)
     os.symlink("../secret", real)
     editor.save("new\n")
-    editor.save("new\n")
+    editor.over("new\n")
     check.same("the other file", read(secret), "secret\n")
     check.same("FILE's link", os.readlink(place.note), "in/real")
     check.same("FILE", read(real), "new\n")
@@ -60,7 +61,7 @@ def link_led_elsewhere(check, place):
     os.remove(place.note)
     os.symlink("secret", place.note)
     check.same("the first save", editor.save("new\n"), "file changed on disk")
-    check.same("the second save", editor.save("new\n"), "saved")
+    check.same("the save that is told to go over it", editor.over("new\n"), "saved")
     check.same("the other file", read(secret), "secret\n")
     check.same("the first file", read(f"{place.folder}/real"), "new\n")
     editor.end()
@@ -93,7 +94,7 @@ def replaced_meanwhile(check, place):
     check.same("the save", editor.end_save(), "file changed on disk")
     check.same("FILE", read(place.note), "theirs\n")
     check.same("what is there", os.listdir(place.folder), ["note"])
-    check.same("the second save", editor.save("new\n"), "saved")
+    check.same("the save that is told to go over it", editor.over("new\n"), "saved")
     check.same("FILE after the second save", read(place.note), "new\n")
     editor.end()
 
@@ -107,7 +108,7 @@ def made_meanwhile(check, place):
     write(place.note, "theirs\n")
     check.same("the save", editor.end_save(), "file changed on disk")
     check.same("FILE", read(place.note), "theirs\n")
-    check.same("the second save", editor.save("new\n"), "saved")
+    check.same("the save that is told to go over it", editor.over("new\n"), "saved")
     editor.end()
 
 
@@ -122,7 +123,7 @@ def written_after_the_exchange(check, place):
     check.same("the save", editor.end_save(), "saved")
     check.same("the second save", editor.save("newer\n"), "file changed on disk")
     check.same("FILE", read(place.note), "theirs\n")
-    check.same("the third save", editor.save("newer\n"), "saved")
+    check.same("the save that is told to go over it", editor.over("newer\n"), "saved")
     editor.end()
 
 
@@ -146,7 +147,7 @@ def written_before_it_is_opened(check, place):
     write(place.note, "theirs\n")
     check.same("the save", editor.end_save(), "file changed on disk")
     check.same("FILE", read(place.note), "theirs\n")
-    check.same("the second save", editor.save("new\n"), "saved")
+    check.same("the save that is told to go over it", editor.over("new\n"), "saved")
     check.same("FILE after the second save", read(place.note), "new\n")
     editor.end()
 
@@ -162,7 +163,7 @@ def written_while_it_is_synced(check, place):
     check.same("the save", editor.end_save(), "saved")
     check.same("the second save", editor.save("newer\n"), "file changed on disk")
     check.same("FILE", read(place.note), "theirs\n")
-    check.same("the third save", editor.save("newer\n"), "saved")
+    check.same("the save that is told to go over it", editor.over("newer\n"), "saved")
     check.same("FILE after the third save", read(place.note), "newer\n")
     editor.end()
 
@@ -328,7 +329,7 @@ def list_amid_save(check, place):
     set_list(place.note, "-m", f"u:{OTHER}:rw")
     check.same("the save", editor.end_save(), "file changed on disk")
     check.same("FILE", read(place.note), "old\n")
-    check.same("the second save", editor.save("new\n"), "saved")
+    check.same("the save that is told to go over it", editor.over("new\n"), "saved")
     said = subprocess.run(["getfacl", "-c", "-p", place.note], capture_output=True, text=True).stdout
     check.same("the list", f"user:{OTHER}:rw-" in said, True)
     editor.end()
@@ -406,7 +407,7 @@ def ten_names(check, place):
     check.same("FILE", read(place.note), "new\n")
     os.link(place.note, f"{place.folder}/other")
     editor.save("newer\n")
-    check.same("the save into the file itself", editor.save("newer\n"), "saved")
+    check.same("the save into the file itself", editor.over("newer\n"), "saved")
     check.same("FILE after it", read(place.note), "newer\n")
     os.remove(f"{place.folder}/other")
     check.same("what is there", sorted(os.listdir(place.folder)), before)
@@ -421,7 +422,7 @@ CASES = [
 # of saves into FILE itself, and of the opening, which the old program leaves to others
 NEW_CASES = [
     written_after_the_exchange, written_before_it_is_opened, written_while_it_is_synced, both_save_in_place, both_save_where_no_folder_is_read,
-    locked_by_another, failing_syncs, linked_on_overlay, full_in_place, *save_paths.NEW_CASES,
+    locked_by_another, failing_syncs, linked_on_overlay, full_in_place, *save_names.CASES, *save_paths.NEW_CASES,
 ]
 
 

@@ -171,7 +171,7 @@ def save(check, scene, saves, at=0, error=0):
     if os.path.exists(log):
         os.remove(log)
     variables = {**os.environ, "LD_PRELOAD": library, "FAULT_LOG": log, "FAULT_AT": str(at), "FAULT_ERROR": str(error), "LACKS": scene.lacks}
-    lines = f"save {new_text}\n" * saves
+    lines = f"save {new_text}\n" + f"over {new_text}\n" * (saves - 1)
     try:
         said = subprocess.run([driver, *scene.words(), scene.file], input=lines, env=variables, capture_output=True, text=True, timeout=LIMIT).stdout
     except subprocess.TimeoutExpired as fault:

@@ -42,6 +42,14 @@ class Editor:
         """Saves a text, and gives the answer."""
         return self.ask(f"save {write(new_name(), text)}")
 
+    def over(self, text):
+        """The same, over the change that was told last."""
+        return self.ask(f"over {write(new_name(), text)}")
+
+    def save_as(self, name, text):
+        """The same, under a new name."""
+        return self.ask(f"as {write(new_name(), text)} {name}")
+
     def start_save(self, text):
         self.tell(f"save {write(new_name(), text)}")
 
@@ -101,6 +109,12 @@ class OldEditor(Editor):
 
     def save(self, text):
         self.start_save(text)
+        return self.end_save()
+
+    def over(self, text):
+        if text != self.text:
+            return self.save(text)
+        self.press(b"y")
         return self.end_save()
 
 

@@ -172,7 +172,7 @@ def hard_links(check, place):
         place.start(other).is_told_of_other()
         first.hangs_up()
         recovers(check, place, other, 'abctext\n')
-        place.tells('--forget', one)
+        place.tells('--forget', '--yes', one)
         check.same('sessions', place.parts('about'), [])
 
 
@@ -297,7 +297,7 @@ def refused_removal(check, place):
     if subprocess.run(['chattr', '+i', folder], check=False, capture_output=True).returncode != 0:
         raise Skipped('no folder can be made immutable')
     try:
-        said = place.tells('--forget', 'a')[1]
+        said = place.tells('--forget', '--yes', 'a')[1]
     finally:
         subprocess.run(['chattr', '-i', folder], check=True)
     check.holds('what is told', 'is deleted' not in said, said)

@@ -5,6 +5,10 @@ HERE = os.path.dirname(os.path.abspath(__file__))
 REPOSITORY = os.path.dirname(os.path.dirname(HERE))
 
 
+# prints its words, and the text that the last one names
+PRINTER = '#!/bin/sh\nprintf "printed"\nprintf " <%s>" "$@"\necho\nshift $(($# - 1))\ncat "$1"\n'
+
+
 def write(path, text, mode=0o755):
     with open(path, 'w') as file:
         file.write(text)
@@ -12,7 +16,7 @@ def write(path, text, mode=0o755):
 
 
 class Tree:
-    """An installation in a folder `top`, with program.py, and a printing program that prints its words.
+    """An installation in a folder `top`, with program.py, and a printing program that prints its words and the text.
 
     `file` gives paths of FILEs in a folder of their own, `home` is where sessions are: each new one has none."""
 
@@ -25,7 +29,7 @@ class Tree:
             os.makedirs(f'{folder}/{name}')
         shutil.copy2(host, self.host)
         shutil.copy2(f'{HERE}/program.py', f'{lib}/bidi_edit')
-        write(f'{lib}/bidi_print', '#!/bin/sh\nprintf "printed"\nprintf " <%s>" "$@"\necho\n')
+        write(f'{lib}/bidi_print', PRINTER)
         write(f'{lib}/kit', 'toolchain 1.2\n', 0o644)
         os.symlink(f'{REPOSITORY}/data', f'{folder}/share/bidi_edit')
 

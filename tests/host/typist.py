@@ -1,14 +1,15 @@
 #!/usr/bin/python3 -SI
 """A program for tests of sessions, in place of bidi_edit: a text to whose front letters are typed.
 
-It shows `text <TEXT> MODIFIED NOTICE`. Letters go in front of the text, in the order in which they are typed. Ctrl-S (13) saves, Ctrl-Q
-(11) ends, and drops what is not saved. It refuses a text that is not UTF-8. The variable TYPIST has words for odd ways: replay-dies,
+It shows `text <TEXT> MODIFIED NOTICE`. Letters go in front of the text, in the order in which they are typed. Ctrl-S (13) saves, Ctrl-W
+(17) over a change by another program, Ctrl-O (0F) under the name that is typed behind it up to Enter. Ctrl-Q (11) ends, and drops what is
+not saved. It refuses a text that is not UTF-8. The variable TYPIST has words for odd ways: replay-dies,
 replay-hangs, replay-refused (of --to), lost (the journal counts as lost), late (it ends a second after its last word, by a fault)."""
 import os, signal, sys, time
 
-QUIT, SAVE = 0x11, 0x13
+QUIT, SAVE, OVER, AS, ENTER = 0x11, 0x13, 0x17, 0x0f, 0x0d
 WAYS = set(os.environ.get('TYPIST', '').split(','))
-SWITCHES = {'--frames', '--new', '--unsaved', '--clipboard'}
+SWITCHES = {'--frames', '--new', '--unsaved', '--clipboard', '--view', '--indent'}
 
 
 def put(file, bytes_):
@@ -77,7 +78,10 @@ class Text:
             if keys[at] == 0x1b:
                 while at < len(keys) and not (keys[at:at + 1].isalpha() or keys[at] == ord('~')):
                     at += 1
-            elif keys[at] == SAVE:
+            elif keys[at] == AS:
+                self.known.append(self.text())
+                at = keys.find(ENTER, at)
+            elif keys[at] in (SAVE, OVER):
                 self.known.append(self.text())
             elif keys[at] >= 32:
                 self.typed += keys[at:at + 1]
@@ -114,19 +118,19 @@ def replay(given):
     say(b'r', word + b' %d' % sum(key >= 32 for key in keys))
 
 
-def save(given, text):
-    """Saves by the host, as the program does. Returns whether the host answered that it is saved."""
+def save(given, text, begin=b''):
+    """Saves by the host, as the program does. Returns what is told."""
     requests, answers = given['--saves'].split(',')
     to, of = os.open(f'/proc/self/fd/{requests}', os.O_WRONLY), os.open(f'/proc/self/fd/{answers}', os.O_RDONLY)
     try:
-        put(to, frame(b'B'))
+        put(to, frame(b'B', begin))
         answer = hear(of)
         if answer and answer[0] == b'k':
             for at in range(0, len(text), 65535):
                 put(to, frame(b'P', text[at:at + 65535]))
             put(to, frame(b'C'))
             answer = hear(of)
-        return answer is not None and answer[0] == b'k'
+        return b'saved' if answer == (b'k', b'') else b'failed' if answer is None else b'failed: %d' % answer[1][0]
     finally:
         os.close(to)
         os.close(of)
@@ -173,7 +177,7 @@ def main():
     if '--to' in given:
         replay(given)
         return
-    text, told = text_of(given), b''
+    text, told, name = text_of(given), b'', None
     with open(given['FILE'] + '.words', 'w') as words:
         words.write('\n'.join(sys.argv[1:]))
     if '--replay' in given:
@@ -197,13 +201,20 @@ def main():
             continue
         for key in body:
             journal.add(bytes([key]))
+            if name is not None and key != ENTER:
+                name.append(key)
+                continue
+            if key == AS:
+                name = bytearray()
+                continue
             if key == QUIT:
                 end(text, given, b'saved' if text.text() == text.saved else b'dropped')
-            if key == SAVE:
-                told = b'failed'
-                if save(given, text.text()):
-                    text.saved, told = text.text(), b'saved'
+            if key in (SAVE, OVER, ENTER):
+                told = save(given, text.text(), b'n' + name if name is not None else b'o' if key == OVER else b'')
+                if told == b'saved':
+                    text.saved = text.text()
                     text.known.append(text.saved)
+                name = None
             text.take(bytes([key]))
 
 

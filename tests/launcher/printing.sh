@@ -26,7 +26,7 @@ check_refused_prints() {
     refused 'printing, no file' '1 bidi-edit: none does not exist' --print none
     refused 'printing, a folder' '1 bidi-edit: /tmp is a folder: name a file in it' --print /tmp
     printf 'a\nb\377\n' >bytes
-    refused 'printing, bytes' "1 bidi-edit: bytes is not UTF-8 (line 2): if it is Hebrew text from Windows, iconv -f CP1255 -t UTF-8 converts it (Arabic: -f CP1256)" --print bytes
+    refused 'printing, bytes' "1 bidi-edit: bytes is not UTF-8 (line 2). If it is Hebrew text from Windows: iconv -f windows-1255 -t UTF-8 bytes > bytes.utf8" --print bytes
 }
 
 # Rows, marks and wrapped rows, as the host has them printed.

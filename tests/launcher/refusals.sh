@@ -114,19 +114,23 @@ refused_at_opening() { # NAME WANTED WORD..
 }
 
 # What is told last of a text that is not UTF-8.
-windows='if it is Hebrew text from Windows, iconv -f CP1255 -t UTF-8 converts it (Arabic: -f CP1256)'
+windows='If it is Hebrew text from Windows: iconv -f windows-1255 -t UTF-8 bytes > bytes.utf8'
 
 # Texts that the program refuses at opening: each message names the line, or the kind of file.
 check_refused_texts() {
     printf 'one\ntwo \377\n' >bytes
-    refused_at_opening 'opening, not UTF-8' "1 bidi-edit: bytes is not UTF-8 (line 2): $windows" bytes
+    refused_at_opening 'opening, not UTF-8' "1 bidi-edit: bytes is not UTF-8 (line 2). $windows" bytes
     printf 'one\ntwo\nthree \327' >bytes
-    refused_at_opening 'opening, not UTF-8 at the end' "1 bidi-edit: bytes is not UTF-8 (line 3): $windows" bytes
+    refused_at_opening 'opening, not UTF-8 at the end' "1 bidi-edit: bytes is not UTF-8 (line 3). $windows" bytes
+    # salaam in windows-1256, and a name with a blank
+    printf '\323\341\307\343 \332\341\355\337\343\n' >'a note'
+    refused_at_opening 'opening, Arabic' "1 bidi-edit: 'a note' is not UTF-8 (line 1). If it is Arabic text from Windows: iconv -f windows-1256 -t UTF-8 'a note' > 'a note.utf8'" 'a note'
+    rm 'a note'
     # beyond Unicode
     printf 'a\n\364\220\200\200' >bytes
-    refused_at_opening 'opening, beyond Unicode' "1 bidi-edit: bytes is not UTF-8 (line 2): $windows" bytes
+    refused_at_opening 'opening, beyond Unicode' "1 bidi-edit: bytes is not UTF-8 (line 2). $windows" bytes
     printf '\377\376a\000' >bytes
-    refused_at_opening 'opening, UTF-16' '1 bidi-edit: bytes is UTF-16, not UTF-8: iconv -f UTF-16 -t UTF-8 converts it' bytes
+    refused_at_opening 'opening, UTF-16' '1 bidi-edit: bytes is UTF-16, not UTF-8: iconv -f UTF-16 -t UTF-8 bytes > bytes.utf8' bytes
     printf '\177ELF\002\001\001\000\000\377\n' >bytes
     start 8 50 "$top/bidi-edit" bytes
     finish 'opening, a program' 1

@@ -227,18 +227,24 @@ check_cut_off_elsewhere() {
     close_editors first
 }
 
-# While an editor saves, another start sees a part of FILE.
+# While an editor saves, another start sees a part of FILE, by its other name. It asks, since FILE is open already, and also after the
+# answer it leaves FILE to the save that goes on.
 check_save_that_goes_on() {
     open_linked
-    # the write to FILE, which is empty by then, takes eight seconds
-    inject write,pwrite64,writev delay_enter=8000000:when=1
+    # the child stops once FILE is empty
+    inject ftruncate signal=STOP:when=1
     terminal send-keys -t first C-s
     wait_for is_empty note
     report 'in place, a save that goes on: FILE is torn' $? "$(cat note)"
+    saver=$(saver_of_check)
+    stop_injecting
     open_editor second '' note.link
-    wait_for shows_in second ' 1:1'
+    expect_in second 'in place, a save that goes on: another start asks' 'note.link is already open in another window of yours'
+    say_in second yes
+    expect_in second 'in place, a save that goes on: another start' '- 1:1'
     same 'in place, a save that goes on: FILE and its text are left alone' "$(stat -c %s note) $(find "$folder/state" -name mark | wc -l)" '0 1'
-    wait_for shows_in first saved
+    kill -s CONT "$saver"
+    expect_in first 'in place, a save that goes on: it ends' saved
     same 'in place, a save that goes on: FILE then' "$(cat note note.link | tr '\n' ' ')" 'xab xab '
     close_editors first second
 }
