@@ -185,9 +185,9 @@ bool is_only_nameless(void) {
     while (walk_next_own(&walk)) {
         bool is_here = session_has_something(&walk.session);
         enum session_state state = is_here ? session_state(&walk.session) : SESSION_EMPTY;
-        bool is_nameless = !walk.session.about.path[1] && (state == SESSION_UNFINISHED || state == SESSION_DROPPED);
-        nameless += is_nameless;
-        named += is_here && !is_nameless;
+        bool has_no_name = !walk.session.about.path[1] && (state == SESSION_UNFINISHED || state == SESSION_DROPPED);
+        nameless += has_no_name;
+        named += is_here && !has_no_name;
     }
     walk_end(&walk);
     sessions_close(&sessions);

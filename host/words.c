@@ -16,7 +16,7 @@
 static const unsigned long last_line = LARGEST_TEXT + 1, too_large = 100000000;
 
 #define USAGE                                                                                                                     \
-    "usage: bidi-edit [--direction auto|ltr|rtl] [--line N | +N] [--view] [FILE | -]\n"                                            \
+    "usage: bidi-edit [--direction auto|ltr|rtl] [--line N | +N] [--tab N] [FILE | -]\n"                                           \
     "       bidi-edit --recover [[--to OTHER] FILE] | --forget [--yes] [FILE]"
 
 static const char usage[] = USAGE;
@@ -27,8 +27,8 @@ static const char print_usage[] =
 const char help_text[] = USAGE "\n"
     "       bidi-edit --print FILE [--cols N] [--marks]   (the manual: man bidi-edit)\n"
     "- edits what comes from a pipe. --view only shows the text, --force opens a FILE\n"
-    "that cannot be saved, -n keeps no copy of unsaved text, --tab N types blanks for\n"
-    "a tab. --no-indent, --no-joining, --no-mouse, --no-clipboard turn these off.\n"
+    "that cannot be saved, -n keeps no copy of unsaved text, --tab N types blanks.\n"
+    "--no-indent --no-joining --no-mouse --no-clipboard --no-options turn these off.\n"
     "--recover restores or lists unsaved text, --to stores it, --forget deletes it.\n"
     "\n"
     "  Arrow keys            move as the screen shows; Ctrl-Left, Ctrl-Right by words\n"

@@ -301,8 +301,6 @@ run_script() { # WORD..
 # Checks what is said before the first build, and that nothing is built for it.
 check_early() {
     make_checkout
-    run_script
-    same 'early, no FILE' "$status $(head -n 1 "$folder/said")" '2 bidi-edit: FILE is missing'
     run_script one two
     same 'early, two files' "$status $(head -n 1 "$folder/said")" '2 bidi-edit: only one FILE can be given, after the options'
     run_script --line

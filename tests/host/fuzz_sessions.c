@@ -172,7 +172,7 @@ static void try_folder(const uint8_t *bytes, size_t size) {
         session_mind(&found.unfinished);
     }
     found_close(&found);
-    sessions_forget(&sessions, NULL, hear_forgotten, NULL);
+    sessions_forget(&sessions, NULL, true, hear_forgotten, NULL);
     struct session left;
     if (session_at(&left, &sessions, name)) {
         session_erase(&left, name);

@@ -66,7 +66,7 @@ int LLVMFuzzerTestOneInput(const uint8_t *bytes, size_t length) {
     memcpy(copy, bytes, length);
     copy[length] = 0;
     for (size_t at = 0; at < length && count < MOST; at += strlen(copy + at) + 1) words[count++] = copy + at;
-    struct call call;
+    struct call call = {0};
     const char *cause = NULL;
     int status = read_words(count, words, &call, &cause);
     if (status < 0 || status > 2 || (status == 0) != (cause == NULL)) abort();

@@ -31,14 +31,14 @@ static void check_begins(void) {
         struct begin begin;
         const char *again;
     } cases[] = {
-        {"24 80 rtl 7\n", true, {24, 80, "rtl", 7}, "24 80 rtl 7\n"},
-        {"24 80 auto -", true, {24, 80, "auto", 0}, "24 80 auto -\n"},
-        {" 1\t500 ltr\n-\nmore", true, {1, 500, "ltr", 0}, "1 500 ltr -\n"},
-        {"4294967295 1 ltr 4294967295", true, {4294967295U, 1, "ltr", 4294967295U}, "4294967295 1 ltr 4294967295\n"},
-        {"24 80 auto - 4 view indent no-name", true, {24, 80, "auto", 0, .spaces = 4, .is_view = true, .is_indented = true, .is_nameless = true},
+        {"24 80 rtl 7\n", true, {.rows = 24, .cols = 80, .direction = "rtl", .line = 7}, "24 80 rtl 7\n"},
+        {"24 80 auto -", true, {.rows = 24, .cols = 80, .direction = "auto", .line = 0}, "24 80 auto -\n"},
+        {" 1\t500 ltr\n-\nmore", true, {.rows = 1, .cols = 500, .direction = "ltr", .line = 0}, "1 500 ltr -\n"},
+        {"4294967295 1 ltr 4294967295", true, {.rows = 4294967295U, .cols = 1, .direction = "ltr", .line = 4294967295U}, "4294967295 1 ltr 4294967295\n"},
+        {"24 80 auto - 4 view indent no-name", true, {.rows = 24, .cols = 80, .direction = "auto", .line = 0, .spaces = 4, .is_view = true, .is_indented = true, .is_nameless = true},
          "24 80 auto - 4 view indent no-name\n"},
-        {"24 80 auto 7 indent", true, {24, 80, "auto", 7, .is_indented = true}, "24 80 auto 7 indent\n"},
-        {"24 80 auto 7 9 0 88", true, {24, 80, "auto", 7}, "24 80 auto 7\n"},
+        {"24 80 auto 7 indent", true, {.rows = 24, .cols = 80, .direction = "auto", .line = 7, .is_indented = true}, "24 80 auto 7 indent\n"},
+        {"24 80 auto 7 9 0 88", true, {.rows = 24, .cols = 80, .direction = "auto", .line = 7}, "24 80 auto 7\n"},
         {"", false, {0}, ""},
         {"24 80", false, {0}, ""},
         {"24 80 up -", false, {0}, ""},
@@ -322,7 +322,7 @@ static void check_facts(void) {
     about.has_id = about.has_begin = about.has_process = about.has_text = about.has_known = true;
     about.id = (struct file_id){.device = 3, .inode = 5, .has_birth = true, .birth_seconds = 9, .birth_nanos = 7};
     about.mode = 0640;
-    about.begin = (struct begin){24, 80, "rtl", 7};
+    about.begin = (struct begin){.rows = 24, .cols = 80, .direction = "rtl", .line = 7};
     about.process = (struct process){.number = 7, .machine = "here", .boot = "boot"};
     snprintf(about.versions, sizeof about.versions, "bidi-edit 1 2 3 4");
     about.marks = MARK_CUT | MARK_SECRET | MARK_IN_PLACE;

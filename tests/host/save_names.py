@@ -1,5 +1,6 @@
 """Saves over the change that was told, and saves under a new name, for save_faults.py."""
 import os
+import subprocess
 
 from checks import needs
 from save_scene import mode_of, open_file, read, slow, wait_until_late, write
@@ -115,4 +116,22 @@ def taken_meanwhile(check, place):
     check.same("what is there", sorted(os.listdir(place.folder)), ["file", "folder", "link", "note"])
 
 
-CASES = [told_each_time, over_without_room, new_names, home, bad_names, taken_meanwhile]
+@needs("root", "mount")
+def full_disk(check, place):
+    """Without room for all of the text no new file is made, and saves go where they went."""
+    disk = f"{place.folder}/disk"
+    os.mkdir(disk)
+    write(place.note, "old\n")
+    subprocess.run(["mount", "-t", "tmpfs", "-o", "size=64k", "tmpfs", disk], check=True)
+    try:
+        editor = open_file(place.note)
+        check.same("the save", editor.save_as(f"{disk}/new", "new\n" * 20000), "no space")
+        check.same("what is there", os.listdir(disk), [])
+        check.same("the next save", editor.save("new\n"), "saved")
+        check.same("FILE", read(place.note), "new\n")
+        editor.end()
+    finally:
+        subprocess.run(["umount", disk], check=True)
+
+
+CASES = [told_each_time, over_without_room, new_names, home, bad_names, taken_meanwhile, full_disk]

@@ -47,7 +47,7 @@ static void check_life(void) {
     check(session_mark(&found.unfinished, MARK_DROPPED) == CAUSE_NONE, "life: dropped by a mark");
     found_close(&found);
     check_kinds(&sessions, &target, "d", "life: dropped");
-    sessions_forget(&sessions, &target, count_forgotten, &forgotten);
+    sessions_forget(&sessions, &target, true, count_forgotten, &forgotten);
     check(forgotten == 1, "life: forgotten");
     check_kinds(&sessions, &target, "", "life: gone");
     leave(&session, &sessions);

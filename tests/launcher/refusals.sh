@@ -33,7 +33,7 @@ no_terminal='2 bidi-edit: there is no terminal: start the editor in one (over ss
 check_refused_words() {
     # the cause, and two lines of usage
     lines_told=3
-    refused 'refused, no FILE' '2 bidi-edit: FILE is missing'
+    refused 'refused, --recover --to without FILE' '2 bidi-edit: FILE is missing' --recover --to f
     refused 'refused, two' '2 bidi-edit: only one FILE can be given, after the options' f g
     refused 'refused, an option' '2 bidi-edit: unknown option --rows' --rows 5 f
     refused 'refused, a direction' '2 bidi-edit: --direction needs auto, ltr or rtl, not up' --direction up f
@@ -169,14 +169,14 @@ check_refused_access() {
     refused_to_user 'access, a file to write in a folder that is not' "$no_terminal" locked/f
     refused_to_user 'access, a new file in that folder' "1 bidi-edit: you cannot write to the folder locked, $folder_told" locked/new
     refused_to_user 'access, that folder, forced' "$no_terminal" --force locked/new
-    refused_to_user 'access, a file that is not either' "1 bidi-edit: you cannot write to the folder locked, $folder_told" locked/g
-    refused_to_user 'access, a write-protected file' '1 bidi-edit: open/f is write-protected: if it is yours, chmod u+w makes it writable; --force opens it anyway' open/f
+    refused_to_user 'access, a file that is not either, to look at' "$no_terminal" locked/g
+    refused_to_user 'access, a write-protected file, to look at' "$no_terminal" open/f
     refused_to_user 'access, that file, forced' "$no_terminal" --force open/f
     unreadable='open/g cannot be read: if it is yours, chmod u+r makes it readable; --force opens an empty text in its place'
     refused_to_user 'access, a file that cannot be read' "1 bidi-edit: $unreadable" open/g
     refused_to_user 'access, that file, forced' "$no_terminal" --force open/g
     ln -s ../locked/g open/link
-    refused_to_user 'access, a link into that folder' "1 bidi-edit: you cannot write to the folder $folder/files/locked, $folder_told" open/link
+    refused_to_user 'access, a link into that folder, to look at' "$no_terminal" open/link
     chmod 700 closed locked
     rm -rf closed locked open
 }

@@ -25,10 +25,10 @@ wait_for_more() { # SIZE
     fails 'the driver answers nothing more'
 }
 
-# Has the driver save the new text, and waits for its answer.
-save_all() {
+# Has the driver save the new text, with the word `over` over the change that was told, and waits for its answer.
+save_all() { # [over]
     before=$(stat -c %s "$folder/out")
-    cat "$folder/orders" >&3
+    sed "s/^save /${1:-save} /" "$folder/orders" >&3
     wait_for_more "$before"
 }
 
@@ -66,13 +66,15 @@ check_foreign() { # NAME SCENE CHANGE
     says 'file changed on disk'
     same "FILE after the first save" "$(state)" theirs
     save_all
-    same "FILE after the second save" "$(state)" new
+    same "FILE after the second save" "$(state)" theirs
+    save_all over
+    same "FILE after the save over it" "$(state)" new
     check_place
     check_nothing_left
     close_session
 }
 
-# FILE is changed after a first save. The second fails, and the third replaces it.
+# FILE is changed after a first save. The second fails, and one over the change replaces it.
 check_between_saves() {
     begin_point 'between two saves'
     prepare plain
@@ -82,7 +84,7 @@ check_between_saves() {
     change_in_place
     save_all
     same "FILE after the second save" "$(state)" theirs
-    save_all
+    save_all over
     same "FILE after the third save" "$(state)" new
     close_session
 }
@@ -103,7 +105,7 @@ check_amid_save() {
     prepare plain
     save_and_meanwhile change_in_place
     same "FILE after the first save" "$(state)" theirs
-    save_all
+    save_all over
     same "FILE after the second save" "$(state)" new
     check_nothing_left
     close_session
@@ -137,12 +139,12 @@ check_exchanged() {
     kept=$place/inner/text
     # it has other names, which counts as a change
     save_all
-    save_all
+    save_all over
     same "FILE after the last save" "$(state)" new
     close_session
 }
 
-# The link that was opened leads to another file. One save says so, and the next ones go into the file that was opened.
+# The link that was opened leads to another file. A save says so, and one over that, and later ones, go into the file that was opened.
 check_retargeted() {
     begin_point 'a link that leads elsewhere by now'
     prepare linked
@@ -152,6 +154,7 @@ check_retargeted() {
     save_all
     says 'file changed on disk'
     same "the new target after the first save" "$(cat "$place/links/other")" "$(cat "$folder/old")"
+    save_all over
     save_all
     same "the new target after the second save" "$(cat "$place/links/other")" "$(cat "$folder/old")"
     same "FILE" "$(state)" new

@@ -83,7 +83,7 @@ check_second_name() {
     ln "$kept" "$place/links/second"
     save_all
     same "FILE after the first save" "$(state)" old
-    save_all
+    save_all over
     same "FILE after the second save" "$(state)" new
     same "the other name's file" "$(stat -c %i "$place/links/second")" "$(stat -c %i "$kept")"
     check_place
@@ -118,7 +118,7 @@ check_access_list() {
     list=$(list_of)
     save_all
     same "FILE after the first save" "$(state)" old
-    save_all
+    save_all over
     same "FILE after the second save" "$(state)" new
     same "the access list" "$(list_of)" "$list"
     # without the list, its permissions are nobody's
@@ -170,7 +170,7 @@ check_made_elsewhere() {
     ln -s links/closed/new "$kept"
     save_all
     same "FILE after the first save" "$(state)" none
-    save_all
+    save_all over
     same "FILE after the second save" "$(state)" new
     same "whether FILE is a link" "$(stat -c %F "$kept")" 'regular file'
     same "what is in the folder of the link" "$(ls -A "$place/links/closed")" ''

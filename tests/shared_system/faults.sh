@@ -222,7 +222,7 @@ check_home_of_another() {
     close_editors first
     # the session is in root's own folder
     same 'faults, root under the home of another: what is kept' \
-        "$(env -u XDG_STATE_HOME HOME="$home_of_stranger" "$host" --forget note 2>&1 | grep -c -F "$folder/files/note")" 1
+        "$(env -u XDG_STATE_HOME HOME="$home_of_stranger" "$host" --forget --yes note 2>&1 | grep -c -F "$folder/files/note")" 1
     rm -rf "$home_of_stranger"
     leave_files
 }

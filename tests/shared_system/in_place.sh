@@ -175,7 +175,7 @@ check_killed_saver() {
     # FILE was written, which counts as a change once
     terminal send-keys -t first y C-s
     wait_for shows_in first 'file changed on disk'
-    terminal send-keys -t first C-s
+    terminal send-keys -t first y
     expect_in first 'in place, the child killed: the next save' 'saved'
     same 'in place, the child killed: FILE is whole' "$(cat note note.link | tr '\n' ' ')" 'xyab xyab '
     terminal send-keys -t first C-q

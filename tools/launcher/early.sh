@@ -6,9 +6,9 @@
 . "$top/tools/launcher/names.sh"
 
 # The usage of host/words.c, with the line about printing.
-usage='usage: bidi-edit [--direction auto|ltr|rtl] [--line N | +N] [--force] FILE
-       bidi-edit --recover [[--to OTHER] FILE] | --forget [FILE]
-       bidi-edit --print FILE [--cols N] [--marks]: its rows to standard output'
+usage='usage: bidi-edit [--direction auto|ltr|rtl] [--line N | +N] [--tab N] [FILE | -]
+       bidi-edit --recover [[--to OTHER] FILE] | --forget [--yes] [FILE]
+       bidi-edit --print FILE [--cols N] [--marks]'
 
 # Prints the cause and the usage without its last line, as the host does.
 refuse_words() { # CAUSE
@@ -36,13 +36,13 @@ need_toolchain() {
     exit 1
 }
 
-# Refuses words without a FILE or with several, and a FILE that is a folder. The host judges all else.
+# Refuses words with several FILEs, and a FILE that is a folder. The host judges all else.
 check_words() { # WORD..
     while [ $# -gt 0 ]; do
         case $1 in
         -h | --help) tell_usage ;;
         --version | --print | --recover | --forget) return ;;
-        --direction | --line | --to)
+        --direction | --line | --tab | --to)
             [ $# -gt 1 ] || refuse_words "$1 needs a value"
             shift
             ;;
@@ -55,7 +55,7 @@ check_words() { # WORD..
         esac
         shift
     done
-    [ $# != 0 ] || refuse_words 'FILE is missing'
+    [ $# != 0 ] || return
     [ $# = 1 ] || refuse_words 'only one FILE can be given, after the options'
     [ -n "$1" ] || refuse_words 'the name of FILE is empty'
     [ ! -d "$1" ] || {
