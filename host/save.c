@@ -211,6 +211,16 @@ void save_publish(const struct save *save) {
     atomic_store(&saved->current, next);
 }
 
+/* Notes in the journal that the program asks whether to overwrite what another program wrote: a recovery takes the next key for the answer then,
+ * and not for text. The program waits for what came of the save, so this stands right behind the key that saved. */
+static void note_question(const struct saver *saver) {
+    static const char over[] = "\033[106~";
+    int journal = saver->lock < 0 ? -1 : openat(saver->lock, JOURNAL_NAME, O_WRONLY | O_APPEND | O_NOFOLLOW | O_NONBLOCK | O_CLOEXEC);
+    if (journal < 0) return;
+    write_bytes(journal, over, sizeof over - 1);
+    close(journal);
+}
+
 /* Ends the child after a save, and leaves the result for the host, which answers the program. The draft of a failed save goes, even if it is
  * the backup already, unless FILE needs the backup. */
 static _Noreturn void end(struct save *save, enum cause cause) {
@@ -219,6 +229,7 @@ static _Noreturn void end(struct save *save, enum cause cause) {
     if (cause == CAUSE_NONE) save->state.is_told = false;
     /* while FILE is torn and its backup is beside it, the user must know that first */
     save->state.cause = cause != CAUSE_NONE && save->state.is_torn && save->state.torn[0] ? CAUSE_CUT_OFF : cause;
+    if (save->state.cause == CAUSE_CHANGED) note_question(save->saver);
     save->state.is_over = true;
     save_publish(save);
     _exit(0);

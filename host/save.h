@@ -43,6 +43,8 @@ struct saver {
 #define BACKUP_DRAFT_NAME "mark.bx"
 /* The file there that says how far a save into FILE has come (struct step). */
 #define STEP_NAME "mark.step"
+/* The keys since the text there. */
+#define JOURNAL_NAME "journal"
 /* The path of the file that a save under a new name is about to make: if the host is killed after that, the session is found by it. */
 #define NEW_PATH_NAME "new-path"
 

@@ -71,13 +71,12 @@ void target_look(struct target *target, const char *path, int folder, const char
 
 /* ---- a session (session.c) */
 
-/* The files in a session's folder: its facts (struct about), and a draft of them; FILE's text as it was opened; the keys since. At times
- * there are three more: the backup of a save that overwrites FILE (BACKUP_NAME in save.h), the text of the last backup after FILE was
- * repaired from it or needed no repair, and the text at the session's end. */
+/* The files in a session's folder: its facts (struct about), and a draft of them; FILE's text as it was opened; the keys since (JOURNAL_NAME
+ * in save.h). At times there are three more: the backup of a save that overwrites FILE (BACKUP_NAME there), the text of the last backup
+ * after FILE was repaired from it or needed no repair, and the text at the session's end. */
 #define ABOUT_NAME "about"
 #define ABOUT_DRAFT_NAME "about.new"
 #define TEXT_NAME "text"
-#define JOURNAL_NAME "journal"
 #define SAVED_NAME "save"
 #define SNAPSHOT_NAME "snapshot"
 

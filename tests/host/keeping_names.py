@@ -8,12 +8,13 @@ OVER, AS, ENTER = b'\x17', b'\x0f', b'\r'
 
 
 def told_changes(check, place):
-    """No number of saves overwrites another program's text; a save that is told to does."""
+    """No number of saves overwrites another program's text; a save that is told to does. The journal has the question behind each of them."""
     place.put('a.txt', b'text\n')
     started = place.edit('a.txt').type(b'abc')
     place.put('a.txt', b'theirs\n')
     for _ in range(3):
         started.type(SAVE).sees(b'failed: 7')
+    check.same('the journal', place.part('journal').replace(b'\x1b[>0~', b'').replace(b'\x1b[>7~', b''), b'abc' + 3 * b'\x13\x1b[106~')
     check.same('FILE', place.text('a.txt'), b'theirs\n')
     started.type(OVER).sees(b'saved').type(QUIT).ends(0)
     check.same('FILE after that', place.text('a.txt'), b'abctext\n')
