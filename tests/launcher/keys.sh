@@ -15,9 +15,9 @@ press() { # NAME ROWS CURSOR [KEY..]
     same_screen "$name" "$wanted_screen"
 }
 
-# Prints the columns of a text in which each character takes one.
+# Prints the columns of a text in which each character takes one, but < and > none.
 columns_of() { # TEXT
-    printf '%s' "$1" | wc -m
+    printf '%s' "$1" | tr -d '<>' | wc -m
 }
 
 # Prints a status row: its left side, and as far as there is room the name of the file and the direction of the cursor's line, which
