@@ -125,7 +125,7 @@ check_selections() {
     press 'a move ends it' 'abcd םולש ef|gh||- 1:1' 0,0 Home
     press 'two rows' 'a<bcd םולש ef|g>h||- 2:2' 1,1 Right S-Down
     press 'two rows deleted' 'ah|||* 1:2' 1,0 DC
-    press 'a copy, which stays selected' '<ah>|||* 1:1 copied' 0,0 End S-Home C-c
+    press 'a copy, which stays selected' '<ah|||>* 1:1 copied' 0,0 End S-Home C-c
     press 'a selection ended by Escape' 'ah|||* 1:3' 2,0 S-End Escape
     press 'no letter gives way' 'ahx|||* 1:4' 3,0 x
     press 'the copy in place of a letter' 'ahah|||* 1:5' 4,0 S-Left C-v
@@ -237,7 +237,7 @@ check_found_again() {
     press 'F3 past the end' 'one two one two|||- 1:5 from the start' 4,0 F3
     press 'a region' 'one <tw>o one two|||- 1:7' 6,0 C-@ M-Right M-Right
     press 'F3 keeps the mark' 'one <two one >two|||- 1:13' 12,0 F3
-    press 'a search with a mark' 'one two one tw<o>|||- 1:15 find: o' end C-w o
+    press 'a search with a mark' 'one two one tw<o|||>- 1:15 find: o' end C-w o
     press 'the search given up by Escape, not the mark' 'one <two one >two|||- 1:13' 12,0 Escape
     press 'the mark taken off by Escape' 'one two one two|||- 1:13' 12,0 Escape
     press 'no region' 'one two one two|||- 1:13 line copied' 12,0 C-c
@@ -250,7 +250,7 @@ check_letters() {
     printf 'xCAF\303\211 שלום\n' >note
     start 4 40 "$top/bidi-edit" note
     press 'a word with an accent' 'x<CAFÉ> םולש|||- 1:2 find: cafe' end C-w c a f e
-    press 'a final letter' 'xCAFÉ <םולש>|||- 1:7 find: מולש' left C-q C-w ש ל ו מ
+    press 'a final letter' 'xCAFÉ <םולש|||>- 1:7 find: מולש' left C-q C-w ש ל ו מ
     press 'the letter with its accent' 'xCAF<É> םולש|||- 1:5 find: é' end C-q C-w é
     press 'letters to replace' 'xCAFÉ םולש|||- 1:2 not found replace: cafe' end C-q F4 c a f e
     press 'fewer letters to replace' 'x<CAF>É םולש|||- 1:2 replace: caf' end BSpace
