@@ -125,7 +125,7 @@ check_selections() {
     press 'a move ends it' 'abcd םולש ef|gh||- 1:1' 0,0 Home
     press 'two rows' 'a<bcd םולש ef|g>h||- 2:2' 1,1 Right S-Down
     press 'two rows deleted' 'ah|||* 1:2' 1,0 DC
-    press 'a copy, which stays selected' '<ah|||>* 1:1 copied' 0,0 End S-Home C-c
+    press 'a copy, which stays selected' '<ah>|||* 1:1 copied' 0,0 End S-Home C-c
     press 'a selection ended by Escape' 'ah|||* 1:3' 2,0 S-End Escape
     press 'no letter gives way' 'ahx|||* 1:4' 3,0 x
     press 'the copy in place of a letter' 'ahah|||* 1:5' 4,0 S-Left C-v
