@@ -20,6 +20,8 @@ NAMED = dict(zip("eEoOpiIfPlra", CONTROLS))
 CLOSERS = dict.fromkeys("eEoO", NAMED["p"]) | dict.fromkeys("iIf", NAMED["P"])
 # letters and digits, and signs of numbers between digits
 WORD = "(?:[a-z0-9\u05d0-\u061b\u061d-\u064a]|(?<=[0-9])[.,:](?=[0-9]))+"
+# the letters on the keys of these letters, of those that sessions.py types: they answer for them
+KEYS = dict(zip("\u05dd\u05e9\u05d1\u05d2\u0628\u0645", "oacdfl"))
 # what is typed, and the kind of the next letter, which goes on with it
 GOES_ON = [("word", "word"), ("word", "blanks"), ("blanks", "blanks")]
 
@@ -146,10 +148,14 @@ class Editor(Search):
             self.typing = "spent"
         elif letter == "\n":
             self.answer_by_line_end()
-        elif letter in ("0123456789:," if self.ask == "line" else "0123456789abcdefABCDEF"):
-            self.type_in_line(letter)
+        elif self.ask == "line":
+            if letter in "0123456789:,":
+                self.type_in_line(letter)
+        elif KEYS.get(letter, letter) in "0123456789abcdefABCDEF":
+            self.type_in_line(KEYS.get(letter, letter))
 
     def answer_by_name(self, letter):
+        letter = KEYS.get(letter, letter)
         if letter in NAMED:
             self.ask = None
             self.put_named(letter)
