@@ -22,8 +22,8 @@ check_layout() {
     press_bytes 'given up by Control and the key Q' 'ab םולש|||- 1:1' 0,0 '\037'
     press 'a search by F7' 'ab םולש|||- 1:1 find: ו' left F7
     press 'given up by F10' 'ab םולש|||- 1:1' 0,0 F10
-    press 'a character by the key of its letter' 'ab םולש|||* 1:2' 0,0 C-k ך
-    press_bytes 'the first Quit' 'ab םולש|||* 1:2 unsaved: ^Q again' 0,0 '\033[27;5;47~'
+    press 'a character by the key of its letter' '<~>ab םולש|||* 1:2' 1,0 C-k ך
+    press_bytes 'the first Quit' '<~>ab םולש|||* 1:2 unsaved: ^Q again' 1,0 '\033[27;5;47~'
     type_bytes "$folder/keys"
     finish 'keys, a Hebrew layout' 0
     rm -f note
@@ -33,11 +33,11 @@ check_layout() {
 check_all_and_lines() {
     printf 'ab\n  cd' >note
     start 5 40 "$top/bidi-edit" note
-    press 'all selected' '<ab>|<  cd>|||- 2:5' 4,1 C-a
-    press 'all copied, and still selected' '<ab>|<  cd>|||- 2:5 copied' 4,1 C-c
+    press 'all selected' '<ab|  cd|||>- 2:5' 4,1 C-a
+    press 'all copied, and still selected' '<ab|  cd|||>- 2:5 copied' 4,1 C-c
     press 'a line copied' 'ab|  cd|||- 2:5 line copied' 4,1 End C-c
     press 'a line above the line of the cursor' 'ab|  cd|  cd||* 3:2' 1,2 Home M-Right C-v
-    press 'whole lines selected from their start' 'ab|<  cd>|  cd||* 3:1' 0,2 Up Home S-Down
+    press 'whole lines selected from their start' 'ab|<  cd|>  cd||* 3:1' 0,2 Up Home S-Down
     press 'a new line with the indent of the last' 'ab|  cd|  cd||* 4:3' 2,3 End Enter
     drop 'all and lines'
 }
@@ -52,7 +52,7 @@ check_names() {
     type_keys C-o
     type_keys -l 'new note'
     type_keys Enter
-    wait_for shows saved
+    wait_for shows '- 1:2 saved'
     same 'keys, a new name: the old file' "$(cat note)" ab
     same 'keys, a new name: the new file' "$(cat 'new note')" xab
     same 'keys, a new name: the file that has the other' "$(cat other)" taken
@@ -71,7 +71,7 @@ check_input_lines() {
     start 4 40 "$top/bidi-edit" note
     press 'a query' 'one <two> one two|||- 1:5 find: two' end C-f t w o
     press 'the cursor in the query' 'one <two> one two|||- 1:5 find: two' 13,3 Left Left
-    press 'a letter in the middle' 'one two one two|||- 1:5 not found find: txwo' 24,3 x
+    press 'a letter in the middle' 'one two one two|||- 1:1 not found find: txwo' 24,3 x
     press 'the letter erased' 'one <two> one two|||- 1:5 find: two' 13,3 BSpace
     press 'the query erased' 'one two one two|||- 1:1 find:' end End M-BSpace
     press_bytes 'a paste of two lines into a search' 'one two <one> two|||- 1:9 find: one' end 'o\033[200~ne\ntwo\033[201~\033[70~'
@@ -85,13 +85,16 @@ check_pointing() {
     start 5 40 "$top/bidi-edit" note
     row2='                               םלוע םולש'
     press_bytes 'a press' "one two|$row2|3|4|- 1:6" 5,0 '\033[<0;6;1M\033[<0;6;1m'
-    press_bytes 'a second press' "one <two>|$row2|3|4|- 1:8" 7,0 '\033[<0;6;1M\033[<0;6;1m'
-    press_bytes 'a third press' "<one two>|$row2|3|4|- 2:1" 39,1 '\033[<0;6;1M\033[<0;6;1m'
+    press_bytes 'a second press' "one <two|>$row2|3|4|- 1:8" 7,0 '\033[<0;6;1M\033[<0;6;1m'
     direction=rtl
-    press_bytes 'a drag over Hebrew letters' "one two|                               ם<לוע> םולש|3|4|- 2:9" 32,1 '\033[<0;35;2M\033[<32;34;2M\033[<32;33;2M\033[<0;33;2m'
-    press_bytes 'dragged back' "one two|                               םלוע<םולש >|3|4|- 2:1" 39,1 '\033[<0;35;2M\033[<32;40;2M\033[<0;40;2m'
-    press_bytes 'the wheel' '4|5|6|7|- 4:1' 0,0 '\033[<65;1;1M'
+    press_bytes 'a third press' "<one two|>$row2|3|4|- 2:1" 39,1 '\033[<0;6;1M\033[<0;6;1m'
+    row2='                               ם<לוע> םולש'
+    press_bytes 'a drag over Hebrew letters' "one two|$row2|3|4|- 2:9" 31,1 '\033[<0;35;2M\033[<32;34;2M\033[<32;33;2M\033[<0;33;2m'
+    row2='                               םלו<ע םולש'
+    press_bytes 'a drag to the other side' "one two|$row2|>3|4|- 2:1" 39,1 '\033[<0;35;2M\033[<32;40;2M\033[<0;40;2m'
     direction=''
+    press_bytes 'the wheel' '4|5|6|7|- 4:1' 0,0 '\033[<65;1;1M'
+    row2='                               םלוע םולש'
     press_bytes 'the wheel back' "one two|$row2|3|4|- 4:1" 0,3 '\033[<64;1;1M'
     drop pointing
 }

@@ -15,9 +15,9 @@ press() { # NAME ROWS CURSOR [KEY..]
     same_screen "$name" "$wanted_screen"
 }
 
-# Prints the columns of a text in which each character takes one.
+# Prints the columns of a text in which each character takes one, but < and > none.
 columns_of() { # TEXT
-    printf '%s' "$1" | wc -m
+    printf '%s' "$1" | tr -d '<>' | wc -m
 }
 
 # Prints a status row: its left side, and as far as there is room the name of the file and the direction of the cursor's line, which
@@ -237,7 +237,7 @@ check_found_again() {
     press 'F3 past the end' 'one two one two|||- 1:5 from the start' 4,0 F3
     press 'a region' 'one <tw>o one two|||- 1:7' 6,0 C-@ M-Right M-Right
     press 'F3 keeps the mark' 'one <two one >two|||- 1:13' 12,0 F3
-    press 'a search with a mark' 'one two one tw<o>|||- 1:15 find: o' end C-w o
+    press 'a search with a mark' 'one two one tw<o|||>- 1:15 find: o' end C-w o
     press 'the search given up by Escape, not the mark' 'one <two one >two|||- 1:13' 12,0 Escape
     press 'the mark taken off by Escape' 'one two one two|||- 1:13' 12,0 Escape
     press 'no region' 'one two one two|||- 1:13 line copied' 12,0 C-c
@@ -250,7 +250,7 @@ check_letters() {
     printf 'xCAF\303\211 שלום\n' >note
     start 4 40 "$top/bidi-edit" note
     press 'a word with an accent' 'x<CAFÉ> םולש|||- 1:2 find: cafe' end C-w c a f e
-    press 'a final letter' 'xCAFÉ <םולש>|||- 1:7 find: מולש' left C-q C-w ש ל ו מ
+    press 'a final letter' 'xCAFÉ <םולש|||>- 1:7 find: מולש' left C-q C-w ש ל ו מ
     press 'the letter with its accent' 'xCAF<É> םולש|||- 1:5 find: é' end C-q C-w é
     press 'letters to replace' 'xCAFÉ םולש|||- 1:2 not found replace: cafe' end C-q F4 c a f e
     press 'fewer letters to replace' 'x<CAF>É םולש|||- 1:2 replace: caf' end BSpace

@@ -36,6 +36,10 @@ WAYS = [(s, t) for t in ("host", "program", "both") for s in ("KILL", "HUP", "TE
 class Session(Editor):
     """An editor that random keys are typed into."""
 
+    def insert(self, letter, byte=None):
+        """A letter, but none that is on the key of a joiner's letter: a joiner is no unit of its own."""
+        super().insert("x" if self.ask == "name" and letter in "\u05de\u062a" else letter, byte)
+
     def press(self):
         """A random key, or several that belong together: six of ten are letters."""
         name = random.choice(NAMES) if random.random() < 0.4 else "insert"

@@ -46,6 +46,7 @@ fn add_options(line: &mut String, options: &Options<'_>) -> Result<(), AllocErro
         ("against", options.against),
         ("saves", options.saves),
         ("before", options.before),
+        ("name", options.name),
     ] {
         add_option(line, name, value)?;
     }
@@ -56,6 +57,8 @@ fn add_options(line: &mut String, options: &Options<'_>) -> Result<(), AllocErro
         ("new", options.is_new),
         ("frames", options.frames),
         ("erases-by-delete", options.erases_by_delete),
+        ("view", options.view),
+        ("indent", options.indent),
     ] {
         if is_given {
             write!(line, " {name}")?;
@@ -63,6 +66,10 @@ fn add_options(line: &mut String, options: &Options<'_>) -> Result<(), AllocErro
     }
     if let Some(number) = options.line {
         write!(line, " line={number}")?;
+    }
+    if options.spaces > 0 {
+        let number = options.spaces;
+        write!(line, " spaces={number}")?;
     }
     Ok(())
 }
