@@ -14,6 +14,8 @@ pub mod Sought
 pub mod InSearch
 pub mod Saved
 pub mod LinePutsKept
+pub mod LinePutsLeft
+pub mod FirstLine
 pub mod QuestionSteps
 pub mod Searches
 pub mod EffectsKept
