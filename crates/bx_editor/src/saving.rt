@@ -209,6 +209,8 @@ impl<D: BidiData + Drop> Editor<D> {
         }
         if self.takes_name(fault) {
             self.take_name();
+        } else {
+            self.answer.clear();
         }
         self.note_end(fault);
     }
