@@ -361,12 +361,13 @@ impl<D: BidiData + Drop> Editor<D> {
         ensures err { OnErr result (self.new ≡ self.old) }
         ensures edits { OnErr result (is_edit_or_move key ≡ true) }
     {
-        let prompt = self.prompt;
+        let (prompt, search_state) = (self.prompt, self.cursor.search_state);
         self.leave_question();
         match self.press(key, fault) {
             Ok(()) => Ok(()),
             Err(refused) => {
                 self.prompt = prompt;
+                self.cursor.search_state = search_state;
                 Err(refused)
             }
         }
