@@ -16,6 +16,9 @@ pub mod Saved
 pub mod LinePutsKept
 pub mod LinePutsLeft
 pub mod FirstLine
+pub mod InLine
+pub mod EditsOrMoves
+pub mod Stores
 pub mod QuestionSteps
 pub mod Searches
 pub mod EffectsKept

@@ -93,7 +93,7 @@ impl<D: BidiData + Drop> Editor<D> {
         ensures { result ≡ self.now.editor.home && is_name self.now.editor.name self.now.editor.answer && not self.now.editor.read_only }
     {
         match &self.name {
-            Some(name) => self.home && !self.read_only && name.as_str() == self.answer.as_str(),
+            Some(name) => self.home && name.as_str() == self.answer.as_str() && !self.read_only,
             None => false,
         }
     }
