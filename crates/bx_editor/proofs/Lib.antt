@@ -16,6 +16,7 @@ pub mod Saved
 pub mod LinePutsKept
 pub mod LinePutsLeft
 pub mod FirstLine
+pub mod LineLength
 pub mod InLine
 pub mod EditsOrMoves
 pub mod Stores

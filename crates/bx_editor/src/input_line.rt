@@ -87,7 +87,8 @@ impl InputLine {
         // a character has at most four bytes
         let mut buffer = [0; 4];
         let new = c.encode_utf8(&mut buffer);
-        self.exchange(document, self.cursor, self.cursor, new)
+        self.exchange(document, self.cursor, self.cursor, new)?;
+        Ok(())
     }
 
     /// The part of the line that an erasure removes.
@@ -153,11 +154,11 @@ fn first_line_len<D: BidiData + Drop>(document: &Document<D>, text: &str) -> usi
     let mut rest = text;
     while let Some((c, behind)) = first_char(rest) {
         if c == '\n' || c == '\t' || document.separates(c) {
-            break;
+            return text.len() - rest.len();
         }
         rest = behind;
     }
-    text.len() - rest.len()
+    text.len()
 }
 
 /// A copy of the first line of a text, up to a tab: what an input line takes of it.
