@@ -1,5 +1,5 @@
 -- The characters of a text before its first line end or tab.
-use Rattle.std.proofs.Common.{◌≡◌, ◌∙◌, ◌<◌, ◌≤◌, ◌-◌, ◌+◌, ◌++◌, ◌×◌, ℕ, suc, Bool, true, false, not, List, [], ◌∷◌, length, take, chars, encode_utf8, IsUtf8, IsCharBoundary, refl, sym, ap, ap₂, subst, arith}
+use Rattle.std.proofs.Common.{◌≡◌, ◌∙◌, ◌<◌, ◌≤◌, ◌-◌, ◌+◌, ◌++◌, ℕ, suc, Bool, true, false, not, List, [], ◌∷◌, length, take, chars, encode_utf8, IsUtf8, IsCharBoundary, refl, sym, ap, ap₂, subst, arith}
 use Rattle.std.proofs.Common.{append_assoc, append-nil, length-append}
 use Rattle.std.specs.Prelude.{◌==◌, ◌||◌}
 use Rattle.std.specs.List.{before_first, list_all, position_or_len}
@@ -30,7 +30,7 @@ pub record IsRead (d : Data) (text front rest : List ℕ) : Type 0 where
   pub utf8 : IsUtf8 front
   pub line : first_line d text ≡ chars front ++ before_first (is_end d) (chars rest)
 
-pub Reads : Data → List ℕ → List ℕ → Type 0
+abbrev pub Reads : Data → List ℕ → List ℕ → Type 0
 Reads d text rest = (front : List ℕ) × IsRead d text front rest
 
 pub none-read : (d : Data) (text : List ℕ) → Reads d text text
@@ -85,8 +85,6 @@ at-seam d text rest n read utf8 len =
 
 -- ---- the line has no line end
 
-no-end : (d : Data) (c : ℕ) → is_end d c ≡ false → is_in_line c ≡ true
-no-end d c h = within (c == 0xA) (is_no_letter d c) h
 free : (b other : Bool) → (b || other) ≡ false → not b ≡ true
 free true other h = absurd (cc h)
 free false other h = refl

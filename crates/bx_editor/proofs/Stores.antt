@@ -1,6 +1,6 @@
 -- Which keys store the text, and which may be refused.
-use Rattle.std.proofs.Common.{◌≡◌, ◌×◌, ◌⊎◌, ◌&&◌, ◌||◌, ℕ, Bool, true, false, Option, Some, None, length, not, if◌then◌else◌, refl, sym, ap, subst, inl, inr, ◌∙◌}
-use Rattle.std.specs.Prelude.{◌==◌, is_some}
+use Rattle.std.proofs.Common.{◌≡◌, ◌&&◌, ◌||◌, ℕ, Bool, true, false, Option, Some, None, length, not, if◌then◌else◌, refl, sym, ap, subst, inl, inr, ◌∙◌}
+use Rattle.std.specs.Prelude.{◌⊎◌, ◌==◌, is_some}
 use Rattle.std.proofs.lemmas.Bool.{and_parts}
 use Rattle.std.proofs.lemmas.Bool.Decides.{eqb_tells}
 use Rattle.bx_keys.specs.declared.key.Key.{Key}
