@@ -346,8 +346,9 @@ impl<D: BidiData + Drop> Editor<D> {
         let cursor = self
             .document
             .moved_in_line(self.answer.as_str(), m, self.input_cursor)?;
+        let search_state = as_typed(self.cursor.search_state);
         self.input_cursor = cursor;
-        self.cursor.search_state = as_typed(self.cursor.search_state);
+        self.cursor.search_state = search_state;
         self.reset_after_key();
         Ok(())
     }
