@@ -11,7 +11,7 @@ use Rattle.bx_editor.specs.declared.search_state.SearchState.{SearchState}
 use Rattle.bx_editor.specs.declared.search_state.SearchState.TheVariants as search_states
 use Rattle.bx_editor.specs.Answers.{IsAnswer, limit_of}
 use Rattle.bx_editor.specs.InputLines.{StandsInLine, prompt_line, takes_line}
-use Rattle.bx_editor.specs.Origin.{BeganAt, StandsAt}
+use Rattle.bx_editor.specs.Origin.{BeganAt, StandsAt, is_queried}
 use Rattle.bx_editor.specs.Search.{as_typed}
 use Rattle.bx_editor.proofs.Begin.{begin-is-place}
 
@@ -99,3 +99,22 @@ stands-typed d purpose query text search_states.Typed at count stands = stands
 stands-typed d purpose query text search_states.WithBegun at count stands = stands
 stands-typed d purpose query text search_states.WithTyped at count stands = stands
 stands-typed d purpose query text search_states.Replacing at count stands = stands
+
+pub queried-origin : (d : Data) (text : List ℕ) (search_state : SearchState) (origin : ℕ) → is_queried search_state ≡ true
+    → BeganAt d text search_state origin → IsTextPlace d text origin
+queried-origin d text search_states.Off origin queried began = absurd (cc queried)
+queried-origin d text search_states.Begun origin queried began = began
+queried-origin d text search_states.Typed origin queried began = began
+queried-origin d text search_states.WithBegun origin queried began = began
+queried-origin d text search_states.WithTyped origin queried began = began
+queried-origin d text search_states.Replacing origin queried began = began
+
+-- a search that is on
+pub on-origin : (d : Data) (text : List ℕ) (search_state : SearchState) (origin : ℕ) → (search_state ≡ search_states.Off → ⊥)
+    → BeganAt d text search_state origin → IsTextPlace d text origin
+on-origin d text search_states.Off origin on began = absurd (on refl)
+on-origin d text search_states.Begun origin on began = began
+on-origin d text search_states.Typed origin on began = began
+on-origin d text search_states.WithBegun origin on began = began
+on-origin d text search_states.WithTyped origin on began = began
+on-origin d text search_states.Replacing origin on began = began

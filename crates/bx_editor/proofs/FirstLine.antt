@@ -1,10 +1,10 @@
 -- The characters of a text before its first line end or tab.
 use Rattle.std.proofs.Common.{◌≡◌, ◌∙◌, ◌<◌, ◌≤◌, ◌-◌, ◌+◌, ◌++◌, ℕ, suc, Bool, true, false, not, List, [], ◌∷◌, length, take, chars, encode_utf8, IsUtf8, IsCharBoundary, refl, sym, ap, ap₂, subst, arith}
 use Rattle.std.proofs.Common.{append_assoc, append-nil, length-append}
-use Rattle.std.specs.Prelude.{◌==◌, ◌||◌}
+use Rattle.std.specs.Prelude.{◌==◌, ◌||◌, encode_utf8_all}
 use Rattle.std.specs.List.{before_first, list_all, position_or_len}
 use Rattle.std.proofs.lemmas.Bool.{and_from}
-use Rattle.std.proofs.lemmas.Str.{chars-nil, IsCharBoundary-at_seam, IsUtf8-append, IsUtf8-nil}
+use Rattle.std.proofs.lemmas.Str.{chars-nil, encodes-chars, IsCharBoundary-at_seam, IsUtf8-append, IsUtf8-nil}
 use Rattle.std.proofs.Math.Seq.{take-append_seam}
 use Rattle.bx_ucd.specs.Data.{Data}
 use Rattle.bx_editor.specs.InputLines.{first_line, is_no_letter}
@@ -82,6 +82,9 @@ at-seam d text rest n read utf8 len =
     let front = read.0 in
     let count : length front ≡ n = omega (arith, len, ap length read.1.split, length-append front rest) in
     subst (IsCharBoundary text) count (IsCharBoundary-at_seam text front rest read.1.split utf8)
+
+pub some-chars : (text : List ℕ) → IsUtf8 text → (length text ≡ 0 → ⊥) → chars text ≡ [] → ⊥
+some-chars text utf8 some none = some (sym (ap length (sym (ap encode_utf8_all none) ∙ encodes-chars text utf8)))
 
 -- ---- the line has no line end
 
