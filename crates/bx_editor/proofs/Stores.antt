@@ -10,9 +10,10 @@ use Rattle.bx_editor.specs.declared.answer.Answer.{Answer}
 use Rattle.bx_editor.specs.declared.answer.Answer.TheVariants.{Letter}
 use Rattle.bx_editor.specs.declared.questions.answers.Prompt.{Prompt}
 use Rattle.bx_editor.specs.declared.questions.answers.Prompt.TheVariants.{Off, Line, Name, Code, File, Overwrite}
-use Rattle.bx_editor.specs.Answering.{answer_of}
+use Rattle.bx_editor.specs.Answering.{answer_of, without_line}
 use Rattle.bx_editor.specs.Editor.{Editor}
 use Rattle.bx_editor.specs.Keys.{ends_name, ends_paste, is_edit_or_move, is_save, is_typed, may_refuse, saving_by, saving_of}
+use Rattle.bx_editor.proofs.EditsOrMoves.{edits-or-moves, edits-or-moves-alone, takes_memory}
 use Rattle.bx_editor.specs.Saving.{Saving, can_save, own_saving, saving_under}
 
 -- ---- a key that stores the text is not refused
@@ -62,6 +63,14 @@ pub stores-is : (e : Editor) (key : Key) → is_some (saving_of e key) ≡ true 
 stores-is e key h edits =
     stores-by e e.prompt key (answer_of key)
     (unless (is_some e.pasted && not (is_save key)) (saving_by e e.prompt key (answer_of key)) h) edits
+
+-- ---- a key that takes memory where something is asked, with and without an input line
+
+pub edits_answered : (key : Key) → takes_memory (answer_of key) ≡ true → is_edit_or_move key ≡ true
+edits_answered key takes = edits-or-moves key takes
+
+pub edits_alone : (key : Key) → takes_memory (without_line (answer_of key)) ≡ true → is_edit_or_move key ≡ true
+edits_alone key takes = edits-or-moves-alone key takes
 
 -- ---- while a paste is under way
 

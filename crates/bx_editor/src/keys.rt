@@ -290,6 +290,7 @@ impl<D: BidiData + Drop> Editor<D> {
     }
 
     /// Applies a key in a question with an input line.
+    #[tactic(auto, using(crate::proofs::Stores::edits_answered))]
     fn press_in_question(&mut self, key: Key, fault: Option<StoreFault>) -> Result<(), OutOfMemory>
         requires line { takes_line self.old.editor.prompt ≡ true }
         ensures ok { OnOk result (self.new.editor
@@ -317,6 +318,7 @@ impl<D: BidiData + Drop> Editor<D> {
     }
 
     /// Applies a key in the question for a character's name.
+    #[tactic(auto, using(crate::proofs::Stores::edits_alone))]
     fn press_for_name(&mut self, key: Key, fault: Option<StoreFault>) -> Result<(), OutOfMemory>
         requires prompt { self.old.editor.prompt ≡ Prompt.Name }
         ensures ok { OnOk result (self.new.editor
