@@ -4,7 +4,7 @@ use Rattle.std.proofs.Common.{append_assoc, append-nil, length-append}
 use Rattle.std.specs.Prelude.{◌==◌, ◌||◌, encode_utf8_all}
 use Rattle.std.specs.List.{before_first, list_all, position_or_len}
 use Rattle.std.proofs.lemmas.Bool.{and_from}
-use Rattle.std.proofs.lemmas.Str.{chars-nil, encodes-chars, IsCharBoundary-at_seam, IsUtf8-append, IsUtf8-nil}
+use Rattle.std.proofs.lemmas.Str.{chars-nil, encodes-chars, IsCharBoundary-at_seam, IsUtf8-append, IsUtf8-nil, IsUtf8-take}
 use Rattle.std.proofs.Math.Seq.{take-append_seam}
 use Rattle.bx_ucd.specs.Data.{Data}
 use Rattle.bx_editor.specs.InputLines.{first_line, is_no_letter}
@@ -42,6 +42,12 @@ none-read d text = ([], record {
 
 pub shorter : (d : Data) (text rest : List ℕ) → Reads d text rest → length rest ≤ length text
 shorter d text rest read = omega (arith, ap length read.1.split, length-append read.0 rest)
+
+pub first-utf8 : (rest behind : List ℕ) (c : ℕ) → IsUtf8 rest → IsUtf8 behind → rest ≡ encode_utf8 c ++ behind → IsUtf8 (encode_utf8 c)
+first-utf8 rest behind c utf8 others e =
+    let n = length (encode_utf8 c) in
+    subst IsUtf8 (ap (take n) e ∙ take-append_seam (encode_utf8 c) behind)
+    (IsUtf8-take rest n utf8 (IsCharBoundary-at_seam rest (encode_utf8 c) behind e others))
 
 pub more-read : (d : Data) (text rest behind : List ℕ) (c : ℕ) → Reads d text rest → rest ≡ encode_utf8 c ++ behind → chars rest ≡ c ∷ chars behind
     → IsUtf8 (encode_utf8 c) → is_end d c ≡ false → Reads d text behind

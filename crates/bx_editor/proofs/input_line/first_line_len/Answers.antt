@@ -1,7 +1,6 @@
-use Rattle.std.proofs.Common.{◌≡◌, ◌∙◌, ◌-◌, ◌||◌, ℕ, IsUtf8, false, length, refl, rules, sym}
-use Rattle.std.specs.Prelude.{◌==◌}
-use Rattle.std.proofs.lemmas.Str.{IsUtf8-encode, IsUtf8-past_char}
-use Rattle.bx_editor.proofs.FirstLine.{at-seam, is_end, more-read, none-read}
+use Rattle.std.proofs.Common.{◌≡◌, ◌-◌, false, length, refl, rules}
+use Rattle.std.proofs.lemmas.Str.{IsUtf8-past_char}
+use Rattle.bx_editor.proofs.FirstLine.{at-seam, first-utf8, is_end, more-read, none-read}
 use Rattle.bx_editor.proofs.input_line.first_line_len.Goals as goal
 
 pub loop-c-init : goal.loop-c-init
@@ -20,7 +19,6 @@ loop-c-preserved g c =
     let rest = c.loop-c.rest.now in
     let behind = c.in-Some.behind.now in
     let goes-on : is_end d letter ≡ false = search rules in
-    record {
-      text = IsUtf8-past_char rest behind letter inv.text c.in-Some.ensures.0;
-      read = more-read d c.args.text.now rest behind letter inv.read c.in-Some.ensures.0 c.in-Some.ensures.2 (search rules) goes-on;
-    }
+    let text = IsUtf8-past_char rest behind letter inv.text c.in-Some.ensures.0 in
+    let one = first-utf8 rest behind letter inv.text text c.in-Some.ensures.0 in
+    record { text = text; read = more-read d c.args.text.now rest behind letter inv.read c.in-Some.ensures.0 c.in-Some.ensures.2 one goes-on }

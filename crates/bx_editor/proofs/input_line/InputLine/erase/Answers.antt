@@ -7,4 +7,4 @@ pub returns-clause-fewer : goal.returns-clause-fewer
 returns-clause-fewer g c =
     let l : LineState = c.args.self.now in
     let text = ap (λ (x : LineState). length (chars x.text)) c.in_ok-exchange.ensures.line in
-    omega (arith, text, fewer l.text _ _ c.in_ok-stop.ensures.utf8 c.in_ok-stop.ensures.range)
+    omega (arith, text, fewer l.text _ _ c.in_ok-start.ensures.utf8 c.in_ok-start.ensures.range)
