@@ -62,6 +62,15 @@ module _ (d : Data) (query other answer : List ℕ) (cursor : ℕ) where
   query-by WithTyped on is = absurd (cc)
   query-by Replacing on is = absurd (cc)
 
+  -- the query is asked for still
+  pub line-of-query : (prompt : Prompt) (was : SearchState) → is_queried was ≡ true → Stands prompt was → Stands prompt Typed
+  line-of-query prompts.Off was on is = query-by was on is
+  line-of-query prompts.Line was on is = is
+  line-of-query prompts.Name was on is = is
+  line-of-query prompts.Code was on is = is
+  line-of-query prompts.File was on is = is
+  line-of-query prompts.Overwrite was on is = is
+
   -- the query is asked for
   pub place-in-query : (prompt : Prompt) (search_state : SearchState) → prompt ≡ prompts.Off → is_queried search_state ≡ true
       → Stands prompt search_state → IsTextPlace d query cursor

@@ -11,6 +11,7 @@ pub mod TopOnce
 pub mod OnItsCell
 pub mod Begin
 pub mod InLine
+pub mod EditsOrMoves
 pub mod Sought
 pub mod InSearch
 pub mod Saved

@@ -30,7 +30,7 @@ impl<D: BidiData + Drop> Editor<D> {
         self.origin = self.cursor.place;
         self.cursor.search_state = SearchState::Begun;
         self.purpose = purpose;
-        self.input_cursor = self.query.len();
+        self.input_cursor = self.query.as_str().len();
         self.reset_after_key();
     }
 
@@ -207,10 +207,10 @@ impl<D: BidiData + Drop> Editor<D> {
         requires place { IfSome landing.place (IsTextPlace (D.data self.old.tables) self.old.editor.content.text) }
         ensures { self.new ≡ record self.old { editor = landed (sought_alone (unselected (cleared self.old.editor))) landing } }
     {
-        self.origin = self.cursor.place;
-        self.settle_at(landing);
         self.cursor.search_state = SearchState::Off;
         self.purpose = SearchPurpose::Find;
+        self.origin = self.cursor.place;
+        self.settle_at(landing);
         self.unselect();
     }
 
