@@ -147,6 +147,15 @@ module _ (d : Data) (purpose : SearchPurpose) (query text : List ℕ) where
   queried-moved WithTyped at count is = absurd (cc)
   queried-moved Replacing at count is = absurd (cc)
 
+  -- nothing of it holds while the query is asked for
+  pub queried-stands : (search_state : SearchState) (at count : ℕ) → is_queried search_state ≡ true → StandsAt d purpose query text search_state at count
+  queried-stands Off at count is = tt
+  queried-stands Begun at count is = tt
+  queried-stands Typed at count is = tt
+  queried-stands WithBegun at count is = absurd (cc)
+  queried-stands WithTyped at count is = absurd (cc)
+  queried-stands Replacing at count is = absurd (cc)
+
   -- the first match is shown
   pub shown : (at count x : ℕ) → IsUtf8 text → length text ≤ largest_text → IsAsked d purpose query count
       → Some at ≡ first_from d (reading purpose) query-letters text x → IsAtMatch d purpose query text at count

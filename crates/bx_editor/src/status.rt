@@ -1,6 +1,7 @@
 //! The status row.
-ghost use Rattle.std.specs.Prelude.{◌≡◌, ◌++◌, ◌≤◌, true, IfOk, IfSome, length, option_map, string_bytes};
+ghost use Rattle.std.specs.Prelude.{◌≡◌, ◌++◌, ◌≤◌, true, Bool, IfOk, IfSome, List, length, option_map, string_bytes};
 ghost use Rattle.bx_common.specs.Characters.{are_ascii_printable};
+ghost use Rattle.bx_rows.specs.RowPicture.{Glyph};
 ghost use Rattle.bx_editor.specs.InputLines.{input_line_of, search_line};
 ghost use Rattle.bx_editor.specs.Status.{glyph_row, left_side, name_glyphs, prompt_text, prompt_words, query_prompt, row_glyphs, search_prompt};
 ghost use Rattle.bx_editor.specs.Status.{status_line, typed_column, with_some_end};
@@ -93,7 +94,7 @@ fn prompt_text(prompt: Prompt) -> &'static str
 
 /// What stands at the row's end, in a session with a name: the name's glyphs, and a direction.
 fn row_end(drawn: &Option<DrawnName>, is_rtl: bool) -> Option<RowEnd<'_>>
-    ensures { option_map (λ e. (e.name.now, e.is_rtl)) result ≡ option_map (λ glyphs. (glyphs, is_rtl)) drawn.now }
+    ensures { option_map {U = List Glyph × Bool} (λ e. (e.name.now, e.is_rtl)) result ≡ option_map (λ glyphs. (glyphs, is_rtl)) drawn.now }
 {
     match drawn {
         None => None,
