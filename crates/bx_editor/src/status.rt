@@ -136,6 +136,17 @@ impl<D: BidiData + Drop> Editor<D> {
         }
     }
 
+    /// Lays out the glyphs of the name; none in a session without a name.
+    fn draw_name(&self) -> Result<Option<DrawnName>, OutOfMemory>
+        ensures { IfOk result (λ drawn. drawn ≡ option_map (name_glyphs (D.data self.now.tables)) self.now.editor.name) }
+    {
+        let Some(name) = &self.name else {
+            return Ok(None);
+        };
+        let drawn = self.document.draw_name(name.as_str())?;
+        Ok(Some(drawn))
+    }
+
     /// Takes the glyphs of the name out, laid out if they are not yet; none in a session without a name.
     fn take_drawn(&mut self) -> Result<Option<DrawnName>, OutOfMemory>
         ensures same { self.new ≡ self.old }
@@ -144,10 +155,7 @@ impl<D: BidiData + Drop> Editor<D> {
         if let Some(drawn) = self.drawn_name.take() {
             return Ok(Some(drawn));
         }
-        match &self.name {
-            None => Ok(None),
-            Some(name) => Ok(Some(self.document.draw_name(name.as_str())?)),
-        }
+        self.draw_name()
     }
 
     /// Draws a text, then the prompt of a question or a search, with what is typed there, and what stands at the row's end.
