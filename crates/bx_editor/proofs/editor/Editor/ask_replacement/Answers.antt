@@ -44,7 +44,7 @@ returns-in-None-clause-ok g c =
     ∙ ap leads c.self.view_is in
     ap (λ (s : EditorState g.row.D.Denot). (let x : EditorState g.row.D.Denot = record s {
       editor = record s.editor { search_state = Typed };
-    } in x)) (c.self-2.view_is ∙ c.settle_at.ensures)
+    } in x)) (c.self-2.view_is ∙ c.settle_at-2.ensures)
     ∙ ap (λ (x : DocumentState g.row.D.Denot). typed (value_with g.D.BidiData i x)) c.in_ok-landing.ensures.same
     ∙ ap typed c.self.view_is
     ∙ ap (λ (x : Editor). (let s : EditorState g.row.D.Denot = record now { editor = x } in s))
@@ -63,7 +63,7 @@ invariant_of-self-in-Some g c =
     let asked : EditorState g.row.D.Denot → EditorState g.row.D.Denot = λ s. record s {
       editor = landed (cleared (record s.editor { purpose = Replace })) landing;
     } in
-    let is : value g.D.BidiData j ≡ asked now = c.self-2.view_is ∙ c.settle_at.ensures
+    let is : value g.D.BidiData j ≡ asked now = c.self-2.view_is ∙ c.settle_at-2.ensures
     ∙ ap (λ (x : DocumentState g.row.D.Denot). asked (value_with g.D.BidiData i x)) c.in_ok-landing.ensures.same
     ∙ ap asked c.self.view_is in
     let ucd = g.D.BidiData.data t.tables in

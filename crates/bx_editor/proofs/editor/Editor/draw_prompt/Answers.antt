@@ -17,10 +17,10 @@ returns-clause-row g c =
     let e : Editor = now.editor in
     let i = c.self.inside in
     let line = c.in-Some.line.now in
-    let ends : Option (List Glyph × Bool) = option_map (λ k. (k.name.now, k.is_rtl)) c.args.end.entry in
+    let ends : Option (List Glyph × Bool) = option_map (λ k. (k.name.now, k.is_rtl)) c.args.end in
     let words = string_bytes c.args.text ++ prompt_words e e.prompt in
-    let text : c.as_str.result.now ≡ words =
-    c.as_str.ensures.value ∙ c.in_ok-push_str.ensures ∙ ap (λ ls. string_bytes c.args.text ++ ls) c.prompt_words.ensures.text in
+    let text : c.as_str-2.result.now ≡ words =
+    c.as_str-2.ensures.value ∙ c.in_ok-push_str.ensures.bytes ∙ ap (λ ls. string_bytes c.args.text ++ ls) c.prompt_words.ensures.text in
     let is : Some line ≡ input_line_of e = sym (ap (option_map (λ l. l.now)) c.in-Some.is) ∙ c.input_line.ensures in
     let ucd : Data = g.D.BidiData.data i.document.tables in
     let w = i.document.document.w in
@@ -39,8 +39,8 @@ returns-clause-column g c =
     let i = c.self.inside in
     let line = c.in-Some.line.now in
     let words = string_bytes c.args.text ++ prompt_words e e.prompt in
-    let text : c.as_str.result.now ≡ words =
-    c.as_str.ensures.value ∙ c.in_ok-push_str.ensures ∙ ap (λ ls. string_bytes c.args.text ++ ls) c.prompt_words.ensures.text in
+    let text : c.as_str-2.result.now ≡ words =
+    c.as_str-2.ensures.value ∙ c.in_ok-push_str.ensures.bytes ∙ ap (λ ls. string_bytes c.args.text ++ ls) c.prompt_words.ensures.text in
     let is : Some line ≡ input_line_of e = sym (ap (option_map (λ l. l.now)) c.in-Some.is) ∙ c.input_line.ensures in
     let ucd : Data = g.D.BidiData.data i.document.tables in
     c.in_ok-row.ensures.column

@@ -30,5 +30,5 @@ returns-clause-row g c =
     (with_some_end e.width (left_side d e (text ++ prompt_words e e.prompt)) o))) ends
     (subst (λ (s : EditorState g.row.D.Denot). IfOk c.draw_prompt-row.result (λ r. r.row.columns ≡ glyph_row s.editor.width
     (with_some_end s.editor.width (left_side (g.D.BidiData.data s.tables) s.editor (text ++ prompt_words s.editor s.editor.prompt))
-    (option_map (λ k. (k.name.now, k.is_rtl)) c.row_end-end.result.entry))))
+    (option_map (λ k. (k.name.now, k.is_rtl)) c.row_end-end.result))))
     c.in_ok-drawn.ensures.same c.draw_prompt-row.ensures.row)

@@ -1,5 +1,5 @@
-use Rattle.std.proofs.Common.{◌≡◌, ◌∙◌, ap, sym}
-use Rattle.std.specs.Prelude.{None}
+use Rattle.std.proofs.Common.{◌≡◌, ◌∙◌, ap, refl, subst, sym}
+use Rattle.std.specs.Prelude.{None, IsNone}
 use Rattle.bx_view.specs.Moves.{step_logical}
 use Rattle.bx_view.specs.declared.moves.Logical.TheVariants.{Forward}
 use Rattle.bx_editor.specs.Editor.{Editor, rows}
@@ -15,7 +15,7 @@ returns-in_default-clause-start g c =
     let d = g.D.BidiData.data now.tables in
     let e : Editor = now.editor in
     let none : found_here d e ≡ None = none-between d (reading e.purpose) (sought d e) e.content.text e.place (step_logical (rows d e) Forward e.place)
-    (c.sought.ensures.none.0 c.in_default.is) in
+    (c.sought.ensures.none.0 (subst IsNone (sym c.in_default.is) refl)) in
     c.region.ensures.start ∙ ap (λ o. (match_or_region d e o).0) (sym none)
 
 pub returns-in_default-clause-stop : goal.returns-in_default-clause-stop
@@ -24,5 +24,5 @@ returns-in_default-clause-stop g c =
     let d = g.D.BidiData.data now.tables in
     let e : Editor = now.editor in
     let none : found_here d e ≡ None = none-between d (reading e.purpose) (sought d e) e.content.text e.place (step_logical (rows d e) Forward e.place)
-    (c.sought.ensures.none.0 c.in_default.is) in
+    (c.sought.ensures.none.0 (subst IsNone (sym c.in_default.is) refl)) in
     c.region.ensures.stop ∙ ap (λ o. (match_or_region d e o).1) (sym none)
