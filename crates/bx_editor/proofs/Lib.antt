@@ -2,6 +2,12 @@ pub mod Computed
 pub mod Viewed
 pub mod StepOrder
 pub mod Parts
+pub mod MarkPlaces
+pub mod LeftLine
+pub mod PlaceLine
+pub mod Spaces
+pub mod PutIn
+pub mod ErasedFrom
 pub mod Shown
 pub mod AnswersKept
 pub mod QuestionLeft
