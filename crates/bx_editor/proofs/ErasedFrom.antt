@@ -2,6 +2,7 @@
 use Rattle.std.proofs.Common.{◌≡◌, ◌<◌, ◌≤◌, ℕ, ◌+◌, ◌-◌, Bool, true, false, List, length, refl, ap, ap₂, sym, arith, if◌then◌else◌}
 use Rattle.std.specs.Prelude.{◌==◌, ◌%◌, ◌&&◌, not, nat_lt, IsCharBoundary, slice_range}
 use Rattle.std.specs.List.{list_all}
+use Rattle.std.proofs.Math.Nat.{mod-le}
 use Rattle.std.proofs.lemmas.Bool.{ltb-true}
 use Rattle.bx_text.specs.Changes.{IsRange}
 use Rattle.bx_ucd.specs.Data.{Data}
@@ -50,3 +51,10 @@ module _ (d : Data) (e : Editor) where
         → IsRange e.content.text o e.place
     stop-range inside bounds o from before =
         space-range e.content.text ((line d e).0) e.place inside parts.2 bounds o (omega (arith, from, at)) before
+
+-- the multiple before a place is in its line, and before the place
+pub stop-low : (place start width : ℕ) → 0 < width → start < place
+    → (start ≤ place - ((place - start - 1) % width + 1)) × (place - ((place - start - 1) % width + 1) < place)
+stop-low place start width some begins =
+    let few : (place - start - 1) % width ≤ place - start - 1 = mod-le (place - start - 1) width in
+    (omega (arith, begins, few), omega (arith, begins, few))

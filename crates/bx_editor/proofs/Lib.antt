@@ -4,6 +4,7 @@ pub mod StepOrder
 pub mod Parts
 pub mod MarkPlaces
 pub mod LeftLine
+pub mod FirstPress
 pub mod PlaceLine
 pub mod Spaces
 pub mod PutIn

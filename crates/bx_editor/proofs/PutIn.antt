@@ -26,7 +26,7 @@ module _ (d : Data) (typing : Typing) (e : Editor) where
   spaces = typed d typing e (replicate (spaces_on e.tab_width (units_in_line d e (yielding e).0)) 0x20) Blank
 
   pub spaces-typed : (width units : ℕ) (new : List ℕ) → width ≡ e.tab_width → 0 < width → units ≡ units_in_line d e (yielding e).0
-      → new ≡ repeat (width - units % width) (0x20 ∷ []) → typed d typing e new Blank ≡ after_tab d typing e
+      → new ≡ repeat {A = ℕ} (width - units % width) (0x20 ∷ []) → typed d typing e new Blank ≡ after_tab d typing e
   spaces-typed width units new same some number is =
       let wide : (e.tab_width == 0) ≡ false = ne_eqb e.tab_width 0 (λ none. omega (arith, none, some, same)) in
       let count : spaces_on width units ≡ spaces_on e.tab_width (units_in_line d e (yielding e).0) = ap₂ spaces_on same number in

@@ -8,7 +8,7 @@ use Rattle.std.proofs.lemmas.List.Sums.{AllPass-from_list_all}
 use Rattle.std.proofs.lemmas.Str.{IsCharBoundary-before_ascii}
 use Rattle.bx_text.specs.Changes.{IsRange}
 
-pub repeated-spaces : (n : ℕ) → repeat n (0x20 ∷ []) ≡ replicate n 0x20
+pub repeated-spaces : (n : ℕ) → repeat {A = ℕ} n (0x20 ∷ []) ≡ replicate n 0x20
 repeated-spaces zero = refl
 repeated-spaces (suc n) = ap (λ bs. 0x20 ∷ bs) (repeated-spaces n)
 
