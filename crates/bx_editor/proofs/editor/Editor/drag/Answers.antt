@@ -1,8 +1,8 @@
-use Rattle.std.proofs.Common.{rules, ◌≡◌, ◌∙◌, ℕ, ◌+◌, Some, ap, ap₂, sym, min}
+use Rattle.std.proofs.Common.{◌≡◌, ◌∙◌, ℕ, ◌+◌, None, Some, ap, ap₂, sym, min}
 use Rattle.bx_ucd.specs.Data.{Data}
-use Rattle.bx_editor.specs.Editor.{Editor, text_height}
+use Rattle.bx_editor.specs.Editor.{Editor, cleared, text_height}
 use Rattle.bx_editor.specs.Functions.{EditorState}
-use Rattle.bx_editor.specs.Pointing.{part_at, pointed_place}
+use Rattle.bx_editor.specs.Pointing.{dragged_to, part_at, pointed_place}
 use Rattle.bx_editor.proofs.FirstPress.{drag-cleared}
 use Rattle.bx_editor.proofs.editor.Editor.drag.Goals as goal
 
@@ -22,7 +22,11 @@ returns-clause-ok g c =
     c.in_ok-part.ensures.start ∙ ap (λ (s : EditorState g.row.D.Denot). (part_at (g.D.BidiData.data s.tables) s.editor pressed.extent c.in_ok-place.place).0) same in
     let stop : c.in_ok-part.part.stop ≡ (part_at d now.editor pressed.extent c.in_ok-place.place).1 =
     c.in_ok-part.ensures.stop ∙ ap (λ (s : EditorState g.row.D.Denot). (part_at (g.D.BidiData.data s.tables) s.editor pressed.extent c.in_ok-place.place).1) same in
-    search rules
-    ∙ ap (λ (x : Editor). (let s : EditorState g.row.D.Denot = record { tables = now.tables; editor = x } in s))
-    (drag-cleared d now.editor c.args.row c.args.column pressed c.in_ok-place.place (c.in_ok-part.part.start, c.in_ok-part.part.stop) is there
-    (ap₂ (λ (a b : ℕ). (a, b)) start stop))
+    let part : ℕ × ℕ = (c.in_ok-part.part.start, c.in_ok-part.part.stop) in
+    let with : Editor → EditorState g.row.D.Denot = λ e. record { tables = now.tables; editor = e } in
+    let left : EditorState g.row.D.Denot → EditorState g.row.D.Denot = λ s. record s { editor = cleared (record s.editor { clicks = None }) } in
+    c.reset_after_key.ensures
+    ∙ ap left (c.self-2.view_is ∙ c.drag_to.ensures)
+    ∙ ap (λ (s : EditorState g.row.D.Denot). left (record s { editor = dragged_to s.editor pressed part })) (c.in_ok-part.ensures.same ∙ same)
+    ∙ ap with
+    (drag-cleared d now.editor c.args.row c.args.column pressed c.in_ok-place.place part is there (ap₂ (λ (a b : ℕ). (a, b)) start stop))
