@@ -2,6 +2,13 @@ pub mod Computed
 pub mod Viewed
 pub mod StepOrder
 pub mod Parts
+pub mod MarkPlaces
+pub mod LeftLine
+pub mod FirstPress
+pub mod PlaceLine
+pub mod Spaces
+pub mod PutIn
+pub mod ErasedFrom
 pub mod Shown
 pub mod AnswersKept
 pub mod QuestionLeft
@@ -10,6 +17,8 @@ pub mod StatusRow
 pub mod TopOnce
 pub mod OnItsCell
 pub mod Begin
+pub mod InLine
+pub mod EditsOrMoves
 pub mod Sought
 pub mod InSearch
 pub mod Saved
@@ -17,8 +26,6 @@ pub mod LinePutsKept
 pub mod LinePutsLeft
 pub mod FirstLine
 pub mod LineLength
-pub mod InLine
-pub mod EditsOrMoves
 pub mod Stores
 pub mod QuestionSteps
 pub mod Searches

@@ -3,7 +3,7 @@ ghost use Rattle.std.specs.Prelude.{◌≡◌, ◌<◌, ◌∷◌, [], if◌then
 ghost use Rattle.bx_text.specs.Edits.{fits};
 ghost use Rattle.bx_editor.specs.Editor.{cleared, with_insertion};
 ghost use Rattle.bx_editor.specs.Putting.{after_character, after_new_line, after_put, after_tab, as_line, has_room, is_paste, new_indent, new_line_end, only_paste};
-ghost use Rattle.bx_editor.specs.Putting.{put_in, put_line, typed, with_selection_replaced, yielding};
+ghost use Rattle.bx_editor.specs.Putting.{put_in, put_line, puts_line, typed, with_selection_replaced, yielding};
 ghost use Rattle.bx_editor.specs.undo_groups.Groups.{kind_of};
 ghost use Rattle.bx_view.specs.Places.{IsTextPlace};
 ghost use Rattle.bx_editor.specs.Region.{region};
@@ -210,6 +210,13 @@ impl<D: BidiData + Drop> Editor<D> {
         self.type_text(new, kind)
     }
 
+    /// Whether a whole line is held, and nothing is selected.
+    fn puts_line(&self) -> bool
+        ensures { result ≡ puts_line self.now.editor }
+    {
+        self.whole_line && !self.is_selection()
+    }
+
     /// The held text as a line that is put over the place's: with a line end, but over an empty line as it is.
     fn held_line(&self) -> Result<String, OutOfMemory>
         ensures { IfOk result (λ s. string_bytes s ≡ as_line (D.data self.now.tables) self.now.editor self.now.editor.held) }
@@ -233,10 +240,10 @@ impl<D: BidiData + Drop> Editor<D> {
         ensures err { OnErr result (self.new ≡ self.old) }
     {
         let new = self.held_line()?;
-        let place = self.cursor.place;
-        let start = self.document.line_of(place).start;
+        let start = self.line_start();
         self.past.undo_groups.reserve()?;
         let n = self.document.past_len();
+        let place = self.cursor.place;
         let Some(place) = self.document.insert_before(start, new.as_str(), place)? else {
             self.tell(Message::TextFull);
             return Ok(());
@@ -258,7 +265,7 @@ impl<D: BidiData + Drop> Editor<D> {
             self.tell(Message::NothingToPut);
             return Ok(());
         }
-        if self.whole_line && !self.is_selection() {
+        if self.puts_line() {
             return self.put_line();
         }
         let empty = String::new(*self.held.allocator());
