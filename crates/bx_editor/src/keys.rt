@@ -103,12 +103,12 @@ impl<D: BidiData + Drop> Editor<D> {
     {
         let again = self.quit_before;
         self.reset_after_key();
-        if !self.past.changed || again {
-            self.ended = true;
-        } else {
-            self.message = Some(Message::Unsaved);
-        }
         self.quit_before = true;
+        if self.past.changed && !again {
+            self.message = Some(Message::Unsaved);
+            return;
+        }
+        self.ended = true;
     }
 
     /// Shows the first list of keys, or the second one if the first is the message.
