@@ -5,6 +5,7 @@ pub mod Parts
 pub mod MarkPlaces
 pub mod LeftLine
 pub mod FirstPress
+pub mod WheelSteps
 pub mod PlaceLine
 pub mod Spaces
 pub mod PutIn
@@ -42,6 +43,6 @@ pub mod Copied
 pub mod Unseen
 pub mod OnePaste
 pub mod SentOut
-mod PasteExamples
+pub mod PasteExamples
 pub mod undo_groups_lemmas
 pub mod questions_lemmas
