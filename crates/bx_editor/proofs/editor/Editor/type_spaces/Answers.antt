@@ -1,5 +1,5 @@
-use Rattle.std.proofs.Common.{◌≡◌, ◌∙◌, ℕ, ap}
-use Rattle.std.proofs.lemmas.Result.{on_ok_weaker}
+use Rattle.std.proofs.Common.{◌≡◌, ◌∙◌, ℕ, ap, subst}
+use Rattle.std.specs.Prelude.{OnOk}
 use Rattle.bx_ucd.specs.Data.{Data}
 use Rattle.bx_editor.specs.declared.undo_groups.typing.Kind.TheVariants.{Blank}
 use Rattle.bx_editor.specs.Editor.{Editor, cleared}
@@ -19,11 +19,10 @@ returns-clause-ok g c =
     c.in_ok-units.ensures.units
     ∙ ap (λ (s : EditorState g.row.D.Denot). units_in_line (g.D.BidiData.data s.tables) s.editor c.yielding-start.result.start) c.self.view_is
     ∙ ap (units_in_line d e) c.yielding-start.ensures.start in
-    on_ok_weaker c.type_text.result
-    (λ h. h
-    ∙ ap (λ (s : EditorState g.row.D.Denot). (let t : EditorState g.row.D.Denot = record s {
-      editor = typed (g.D.BidiData.data s.tables) s.editor.typing (cleared s.editor) c.as_str.result.now Blank;
-    } in t)) back
-    ∙ ap (λ (x : Editor). (let s : EditorState g.row.D.Denot = record { tables = now.tables; editor = x } in s))
-    (spaces-typed d e.typing (cleared e) c.args.width c.in_ok-units.units c.as_str.result.now c.requires.width c.requires.some units
-    (c.as_str.ensures.value ∙ c.in_ok-spaces.ensures.bytes))) c.type_text.ensures.ok
+    let spaces = c.as_str.result.now in
+    subst (λ (x : Editor). OnOk c.type_text.result (c.type_text.new.self ≡ (let t : EditorState g.row.D.Denot = record { tables = now.tables; editor = x } in t)))
+    (spaces-typed d e.typing (cleared e) c.args.width c.in_ok-units.units spaces c.requires.width c.requires.some units
+    (c.as_str.ensures.value ∙ c.in_ok-spaces.ensures.bytes))
+    (subst (λ (s : EditorState g.row.D.Denot). OnOk c.type_text.result (c.type_text.new.self ≡ (let t : EditorState g.row.D.Denot = record s {
+      editor = typed (g.D.BidiData.data s.tables) s.editor.typing (cleared s.editor) spaces Blank;
+    } in t))) back c.type_text.ensures.ok)
