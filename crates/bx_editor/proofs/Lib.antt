@@ -18,10 +18,16 @@ pub mod StatusRow
 pub mod TopOnce
 pub mod OnItsCell
 pub mod Begin
+pub mod InLine
+pub mod EditsOrMoves
 pub mod Sought
 pub mod InSearch
 pub mod Saved
 pub mod LinePutsKept
+pub mod LinePutsLeft
+pub mod FirstLine
+pub mod LineLength
+pub mod Stores
 pub mod QuestionSteps
 pub mod Searches
 pub mod EffectsKept
