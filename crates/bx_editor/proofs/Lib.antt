@@ -49,6 +49,6 @@ pub mod Copied
 pub mod Unseen
 pub mod OnePaste
 pub mod SentOut
-pub mod PasteExamples
+mod PasteExamples
 pub mod undo_groups_lemmas
 pub mod questions_lemmas

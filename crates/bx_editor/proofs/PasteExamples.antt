@@ -400,6 +400,6 @@ a_copy_in_a_question_gives_it_up : clip_of (after (with_clipboard (start (codes 
 unfolding unicode_segmentation unicode_width digits
 a_copy_in_a_question_gives_it_up = refl
 
-pub without_a_clipboard : clip_of (edited (codes "ab") (Copy ∷ [])) Copy ≡ None
+without_a_clipboard : clip_of (edited (codes "ab") (Copy ∷ [])) Copy ≡ None
 unfolding unicode_segmentation unicode_width digits
 without_a_clipboard = refl

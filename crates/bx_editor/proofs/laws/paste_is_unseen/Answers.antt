@@ -1,4 +1,3 @@
-use Rattle.bx_editor.proofs.PasteExamples.{without_a_clipboard}
 use Rattle.bx_editor.proofs.Unseen.{paste-is-unseen}
 use Rattle.bx_editor.proofs.laws.paste_is_unseen.Goals as goal
 
