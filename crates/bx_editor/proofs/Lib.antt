@@ -5,6 +5,7 @@ pub mod Parts
 pub mod MarkPlaces
 pub mod LeftLine
 pub mod FirstPress
+pub mod WheelSteps
 pub mod PlaceLine
 pub mod Spaces
 pub mod PutIn
