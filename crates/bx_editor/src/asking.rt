@@ -81,6 +81,7 @@ impl<D: BidiData + Drop> Editor<D> {
 
     /// Makes a line the answer, and clears the message.
     fn take_answer(&mut self, line: InputLine)
+        requires asked { takes_line self.old.editor.prompt ≡ true }
         requires few { length (chars line.text) ≤ limit_of self.old.editor.prompt }
         requires place { IsTextPlace (D.data self.old.tables) line.text line.cursor }
         ensures { self.new ≡ record self.old { editor = with_answer (cleared self.old.editor) line } }
@@ -345,8 +346,9 @@ impl<D: BidiData + Drop> Editor<D> {
         let cursor = self
             .document
             .moved_in_line(self.answer.as_str(), m, self.input_cursor)?;
+        let search_state = as_typed(self.cursor.search_state);
         self.input_cursor = cursor;
-        self.cursor.search_state = as_typed(self.cursor.search_state);
+        self.cursor.search_state = search_state;
         self.reset_after_key();
         Ok(())
     }
