@@ -11,7 +11,7 @@ use Rattle.bx_editor.specs.declared.search_state.SearchState.{SearchState}
 use Rattle.bx_editor.specs.declared.search_state.SearchState.TheVariants as search_states
 use Rattle.bx_editor.specs.Answers.{IsAnswer, limit_of}
 use Rattle.bx_editor.specs.InputLines.{StandsInLine, prompt_line, takes_line}
-use Rattle.bx_editor.specs.Origin.{BeganAt, StandsAt, is_queried}
+use Rattle.bx_editor.specs.Origin.{BeganAt, StandsAt, asks_replacement, is_queried}
 use Rattle.bx_editor.specs.Search.{as_typed}
 use Rattle.bx_editor.proofs.Begin.{begin-is-place}
 
@@ -109,12 +109,11 @@ queried-origin d text search_states.WithBegun origin queried began = began
 queried-origin d text search_states.WithTyped origin queried began = began
 queried-origin d text search_states.Replacing origin queried began = began
 
--- a search that is on
-pub on-origin : (d : Data) (text : List ℕ) (search_state : SearchState) (origin : ℕ) → (search_state ≡ search_states.Off → ⊥)
+pub asked-origin : (d : Data) (text : List ℕ) (search_state : SearchState) (origin : ℕ) → asks_replacement search_state ≡ true
     → BeganAt d text search_state origin → IsTextPlace d text origin
-on-origin d text search_states.Off origin on began = absurd (on refl)
-on-origin d text search_states.Begun origin on began = began
-on-origin d text search_states.Typed origin on began = began
-on-origin d text search_states.WithBegun origin on began = began
-on-origin d text search_states.WithTyped origin on began = began
-on-origin d text search_states.Replacing origin on began = began
+asked-origin d text search_states.Off origin asked began = absurd (cc asked)
+asked-origin d text search_states.Begun origin asked began = began
+asked-origin d text search_states.Typed origin asked began = began
+asked-origin d text search_states.WithBegun origin asked began = began
+asked-origin d text search_states.WithTyped origin asked began = began
+asked-origin d text search_states.Replacing origin asked began = began

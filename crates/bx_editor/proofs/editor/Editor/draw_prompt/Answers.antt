@@ -24,7 +24,7 @@ returns-clause-row g c =
     let is : Some line ≡ input_line_of e = sym (ap (option_map (λ l. l.now)) c.in-Some.is) ∙ c.input_line.ensures in
     let ucd : Data = g.D.BidiData.data i.document.tables in
     let w = i.document.document.w in
-    c.in_ok-row.ensures.row
+    c.in_ok-row-2.ensures.row
     ∙ ap (λ ls. glyph_row w (with_some_end w (letter_glyphs ls ++ glyphs_or (line_glyphs ucd line) (input_line ucd w (length ls) line i.input_cursor)) ends)) text
     ∙ ap (λ (s : EditorState g.row.D.Denot). glyph_row s.editor.width (with_some_end s.editor.width (letter_glyphs words
     ++ glyphs_or (line_glyphs (g.D.BidiData.data s.tables) line) (input_line (g.D.BidiData.data s.tables) s.editor.width (length words) line s.editor.input_cursor)) ends))
@@ -43,7 +43,7 @@ returns-clause-column g c =
     c.as_str-2.ensures.value ∙ c.in_ok-push_str.ensures.bytes ∙ ap (λ ls. string_bytes c.args.text ++ ls) c.prompt_words.ensures.text in
     let is : Some line ≡ input_line_of e = sym (ap (option_map (λ l. l.now)) c.in-Some.is) ∙ c.input_line.ensures in
     let ucd : Data = g.D.BidiData.data i.document.tables in
-    c.in_ok-row.ensures.column
+    c.in_ok-row-2.ensures.column
     ∙ ap (λ ls. column_shown (input_line ucd i.document.document.w (length ls) line i.input_cursor)) text
     ∙ ap (λ (s : EditorState g.row.D.Denot). column_shown (input_line (g.D.BidiData.data s.tables) s.editor.width (length words) line s.editor.input_cursor))
     c.self.view_is
