@@ -104,11 +104,11 @@ impl<D: BidiData + Drop> Editor<D> {
         let again = self.quit_before;
         self.reset_after_key();
         self.quit_before = true;
-        if !self.past.changed || again {
-            self.ended = true;
+        if self.past.changed && !again {
+            self.message = Some(Message::Unsaved);
             return;
         }
-        self.message = Some(Message::Unsaved);
+        self.ended = true;
     }
 
     /// Shows the first list of keys, or the second one if the first is the message.
@@ -213,11 +213,12 @@ impl<D: BidiData + Drop> Editor<D> {
                 Ok(())
             }
             (Prompt::Off, SearchState::Off) => self.press(key, fault),
-            // The proof tells these states apart.
-            (Prompt::Off, SearchState::Begun) => self.press_in_search(key, fault),
-            (Prompt::Off, SearchState::Typed) => self.press_in_search(key, fault),
-            (Prompt::Off, SearchState::WithBegun) => self.press_for_replacement(key, fault),
-            (Prompt::Off, SearchState::WithTyped) => self.press_for_replacement(key, fault),
+            (Prompt::Off, SearchState::Begun | SearchState::Typed) => {
+                self.press_in_search(key, fault)
+            }
+            (Prompt::Off, SearchState::WithBegun | SearchState::WithTyped) => {
+                self.press_for_replacement(key, fault)
+            }
             (Prompt::Off, SearchState::Replacing) => self.press_at_match(key, fault),
         }
     }
