@@ -34,11 +34,14 @@ abbrev pub Reads : Data → List ℕ → List ℕ → Type 0
 Reads d text rest = (front : List ℕ) × IsRead d text front rest
 
 pub none-read : (d : Data) (text : List ℕ) → Reads d text text
-none-read d text = ([], record {
-  split = refl;
-  utf8 = IsUtf8-nil;
-  line = sym (ap (λ (cs : List ℕ). cs ++ before_first (is_end d) (chars text)) chars-nil);
-})
+none-read d text = (
+  [],
+  record {
+    split = refl;
+    utf8 = IsUtf8-nil;
+    line = sym (ap (λ (cs : List ℕ). cs ++ before_first (is_end d) (chars text)) chars-nil);
+  },
+)
 
 pub shorter : (d : Data) (text rest : List ℕ) → Reads d text rest → length rest ≤ length text
 shorter d text rest read = omega (arith, ap length read.1.split, length-append read.0 rest)
@@ -55,14 +58,16 @@ more-read d text rest behind c read bytes letters utf8 goes-on =
     let front = read.0 in
     let is = read.1 in
     let longer : chars (front ++ encode_utf8 c) ≡ chars front ++ c ∷ [] = one_more front c is.utf8 utf8 in
-    let after = before_first (is_end d) (chars behind) in
-    (front ++ encode_utf8 c, record {
-      split = is.split ∙ ap (λ (t : List ℕ). front ++ t) bytes ∙ sym (append_assoc front (encode_utf8 c) behind);
-      utf8 = IsUtf8-append front (encode_utf8 c) is.utf8 utf8;
-      line = is.line ∙ ap (λ cs. chars front ++ before_first (is_end d) cs) letters
-          ∙ ap (λ (cs : List ℕ). chars front ++ cs) (before-more (is_end d) c (chars behind) goes-on)
-          ∙ sym (append_assoc (chars front) (c ∷ []) after) ∙ ap (λ (cs : List ℕ). cs ++ after) (sym longer);
-    })
+    let after = before_first (is_end d) (chars behind) in (
+      front ++ encode_utf8 c,
+      record {
+        split = is.split ∙ ap (λ (t : List ℕ). front ++ t) bytes ∙ sym (append_assoc front (encode_utf8 c) behind);
+        utf8 = IsUtf8-append front (encode_utf8 c) is.utf8 utf8;
+        line = is.line ∙ ap (λ cs. chars front ++ before_first (is_end d) cs) letters
+            ∙ ap (λ (cs : List ℕ). chars front ++ cs) (before-more (is_end d) c (chars behind) goes-on)
+            ∙ sym (append_assoc (chars front) (c ∷ []) after) ∙ ap (λ (cs : List ℕ). cs ++ after) (sym longer);
+      },
+    )
 
 -- where the rest begins with an end, or is empty, the line was read
 read-is : (d : Data) (text rest : List ℕ) (n : ℕ) → Reads d text rest → before_first (is_end d) (chars rest) ≡ [] → n ≡ length text - length rest

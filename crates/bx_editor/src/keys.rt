@@ -10,8 +10,8 @@ ghost use Rattle.bx_editor.specs.Keys.{after_any, after_key, after_pressing, aft
 ghost use Rattle.bx_editor.specs.Keys.{changes_text, is_edit_or_move, may_refuse, refuses_replacing, saving_of};
 ghost use Rattle.bx_editor.specs.Functions.{has_size, move_of};
 
-use crate::clicks::{clicks_behind, pressed_behind};
 use crate::answer::{Answer, answer_of};
+use crate::clicks::{clicks_behind, pressed_behind};
 use crate::editor::Editor;
 use crate::message::Message;
 use crate::moving::goal_behind;

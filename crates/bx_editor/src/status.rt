@@ -83,9 +83,7 @@ fn prompt_text(prompt: Prompt) -> &'static str
     match prompt {
         Prompt::Off => "",
         Prompt::Line => " line: ",
-        Prompt::Name => {
-            " insert: i I f isolate P end l r a mark n j joiner e E o O p u code"
-        }
+        Prompt::Name => { " insert: i I f isolate P end l r a mark n j joiner e E o O p u code" }
         Prompt::Code => " insert: U+",
         Prompt::File => " save as: ",
         Prompt::Overwrite => " overwrite it? y or n",
@@ -187,7 +185,11 @@ impl<D: BidiData + Drop> Editor<D> {
 
     /// Draws the status row: a text, then the prompt of a question or a search, with what is typed there, and at its end the name.
     /// `is_rtl`: the paragraph is read from right to left.
-    pub(crate) fn draw_status(&mut self, text: String, is_rtl: bool) -> Result<StatusRow, OutOfMemory>
+    pub(crate) fn draw_status(
+        &mut self,
+        text: String,
+        is_rtl: bool,
+    ) -> Result<StatusRow, OutOfMemory>
         requires printable { are_ascii_printable (string_bytes text) ≡ true }
         requires some { 1 ≤ length (string_bytes text) }
         ensures same { self.new ≡ self.old }

@@ -13,11 +13,11 @@ returns-in_ok-press_behind_paste-in_default-clause-ok g c =
     let pasting : is_some e.pasted ≡ true = sym c.is_pasting-2.ensures ∙ c.if-is_pasting-2.true in
     elim c.in_default.branch as (λ _. c.press_behind_paste.new.self.editor ≡ after_key d c.args.fault e c.args.key) [
       | in_default-via-in-Insert+else-is_pasting w ↦
-        let idle : is_some e.pasted ≡ false = sym w.is_pasting.ensures ∙ w.if-is_pasting.false in
-        absurd (cc (sym pasting ∙ idle))
+          let idle : is_some e.pasted ≡ false = sym w.is_pasting.ensures ∙ w.if-is_pasting.false in
+          absurd (cc (sym pasting ∙ idle))
       | in_default-via-in_default w ↦
-        let not = w.in_default in
-        c.in_ok-press_behind_paste-in_default.ensures.ok
-        ∙ ap (after_user d c.args.fault (paste_ended d e)) w.key-is
-        ∙ sym (pasted-key d c.args.fault e c.args.key pasting not.not-Insert not.not-Repaint not.not-Fill not.not-PasteStart not.not-PasteEnd not.not-Size not.not-Notice)
+          let not = w.in_default in
+          c.in_ok-press_behind_paste-in_default.ensures.ok
+          ∙ ap (after_user d c.args.fault (paste_ended d e)) w.key-is
+          ∙ sym (pasted-key d c.args.fault e c.args.key pasting not.not-Insert not.not-Repaint not.not-Fill not.not-PasteStart not.not-PasteEnd not.not-Size not.not-Notice)
     ]
