@@ -10,8 +10,8 @@ ghost use Rattle.bx_editor.specs.Keys.{after_any, after_key, after_pressing, aft
 ghost use Rattle.bx_editor.specs.Keys.{changes_text, is_edit_or_move, may_refuse, refuses_replacing, saving_of};
 ghost use Rattle.bx_editor.specs.Functions.{has_size, move_of};
 
-use crate::clicks::{clicks_behind, pressed_behind};
 use crate::answer::{Answer, answer_of};
+use crate::clicks::{clicks_behind, pressed_behind};
 use crate::editor::Editor;
 use crate::message::Message;
 use crate::moving::goal_behind;
@@ -103,12 +103,12 @@ impl<D: BidiData + Drop> Editor<D> {
     {
         let again = self.quit_before;
         self.reset_after_key();
-        if !self.past.changed || again {
-            self.ended = true;
-        } else {
-            self.message = Some(Message::Unsaved);
-        }
         self.quit_before = true;
+        if self.past.changed && !again {
+            self.message = Some(Message::Unsaved);
+            return;
+        }
+        self.ended = true;
     }
 
     /// Shows the first list of keys, or the second one if the first is the message.
@@ -169,6 +169,8 @@ impl<D: BidiData + Drop> Editor<D> {
         ensures tables { self.new.tables ≡ self.old.tables }
         ensures err { OnErr result (self.new ≡ self.old) }
         ensures edits { OnErr result (is_edit_or_move key ≡ true) }
+        ensures saved { self.old.editor.prompt ≡ Prompt.File → answer_of key ≡ Answer.Letter 0xA → IsOk result }
+        ensures decided { self.old.editor.prompt ≡ Prompt.Overwrite → IsOk result }
     {
         if self.refuses_replacing(key) {
             self.tell(Message::ViewOnly);
@@ -200,6 +202,8 @@ impl<D: BidiData + Drop> Editor<D> {
         ensures tables { self.new.tables ≡ self.old.tables }
         ensures err { OnErr result (self.new ≡ self.old) }
         ensures edits { OnErr result (is_edit_or_move key ≡ true) }
+        ensures saved { self.old.editor.prompt ≡ Prompt.File → answer_of key ≡ Answer.Letter 0xA → IsOk result }
+        ensures decided { self.old.editor.prompt ≡ Prompt.Overwrite → IsOk result }
     {
         match (self.prompt, self.cursor.search_state) {
             (Prompt::Line | Prompt::Code | Prompt::File, _) => self.press_in_question(key, fault),
@@ -208,12 +212,14 @@ impl<D: BidiData + Drop> Editor<D> {
                 self.press_for_overwriting(key, fault);
                 Ok(())
             }
-            (_, SearchState::Off) => self.press(key, fault),
-            (_, SearchState::Begun | SearchState::Typed) => self.press_in_search(key, fault),
-            (_, SearchState::WithBegun | SearchState::WithTyped) => {
+            (Prompt::Off, SearchState::Off) => self.press(key, fault),
+            (Prompt::Off, SearchState::Begun | SearchState::Typed) => {
+                self.press_in_search(key, fault)
+            }
+            (Prompt::Off, SearchState::WithBegun | SearchState::WithTyped) => {
                 self.press_for_replacement(key, fault)
             }
-            (_, SearchState::Replacing) => self.press_at_match(key, fault),
+            (Prompt::Off, SearchState::Replacing) => self.press_at_match(key, fault),
         }
     }
 
@@ -284,6 +290,7 @@ impl<D: BidiData + Drop> Editor<D> {
     }
 
     /// Applies a key in a question with an input line.
+    #[tactic(auto, using(crate::proofs::Stores::edits_answered))]
     fn press_in_question(&mut self, key: Key, fault: Option<StoreFault>) -> Result<(), OutOfMemory>
         requires line { takes_line self.old.editor.prompt ≡ true }
         ensures ok { OnOk result (self.new.editor
@@ -291,6 +298,7 @@ impl<D: BidiData + Drop> Editor<D> {
         ensures tables { self.new.tables ≡ self.old.tables }
         ensures err { OnErr result (self.new ≡ self.old) }
         ensures edits { OnErr result (is_edit_or_move key ≡ true) }
+        ensures saved { self.old.editor.prompt ≡ Prompt.File → answer_of key ≡ Answer.Letter 0xA → IsOk result }
     {
         match answer_of(key) {
             Answer::Letter(c) => self.answer_question(c, fault)?,
@@ -310,6 +318,7 @@ impl<D: BidiData + Drop> Editor<D> {
     }
 
     /// Applies a key in the question for a character's name.
+    #[tactic(auto, using(crate::proofs::Stores::edits_alone))]
     fn press_for_name(&mut self, key: Key, fault: Option<StoreFault>) -> Result<(), OutOfMemory>
         requires prompt { self.old.editor.prompt ≡ Prompt.Name }
         ensures ok { OnOk result (self.new.editor
@@ -361,12 +370,13 @@ impl<D: BidiData + Drop> Editor<D> {
         ensures err { OnErr result (self.new ≡ self.old) }
         ensures edits { OnErr result (is_edit_or_move key ≡ true) }
     {
-        let prompt = self.prompt;
+        let (prompt, search_state) = (self.prompt, self.cursor.search_state);
         self.leave_question();
         match self.press(key, fault) {
             Ok(()) => Ok(()),
             Err(refused) => {
                 self.prompt = prompt;
+                self.cursor.search_state = search_state;
                 Err(refused)
             }
         }

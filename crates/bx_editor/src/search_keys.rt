@@ -2,6 +2,7 @@
 ghost use Rattle.std.specs.Prelude.{◌≡◌, true, OnErr, OnOk};
 ghost use Rattle.bx_view.specs.Places.{IsTextPlace};
 ghost use Rattle.bx_editor.specs.declared.questions.answers.Prompt.{Prompt};
+ghost use Rattle.bx_editor.specs.declared.search_state.SearchState.{SearchState};
 ghost use Rattle.bx_editor.specs.Answering.{answer_of, without_line};
 ghost use Rattle.bx_editor.specs.Before.{before};
 ghost use Rattle.bx_editor.specs.Editor.{cleared, with_typing};
@@ -66,6 +67,7 @@ impl<D: BidiData + Drop> Editor<D> {
     fn end_query(&mut self) -> Result<(), OutOfMemory>
         requires origin { IsTextPlace (D.data self.old.tables) self.old.editor.content.text self.old.editor.origin }
         requires queried { is_queried self.old.editor.search_state ≡ true }
+        requires prompt { self.old.editor.prompt ≡ Prompt.Off }
         ensures ok { OnOk result (self.new ≡ record self.old {
           editor = after_sought_end (D.data self.old.tables) (cleared self.old.editor);
         }) }

@@ -1,23 +1,17 @@
-use Rattle.std.proofs.Common.{string_bytes, ap, ◌∙◌}
-use Rattle.std.proofs.lemmas.Str.{IsUtf8-encode, IsUtf8-string_bytes}
-use Rattle.bx_editor.specs.questions.Answers.{lengthened}
-use Rattle.bx_editor.proofs.AnswersKept.{answer-longer}
+use Rattle.std.proofs.Common.{◌≡◌, ◌∙◌, true, ap, string_bytes, subst, sym}
+use Rattle.bx_view.specs.Places.{IsTextPlace}
+use Rattle.bx_editor.specs.Functions.{EditorState}
+use Rattle.bx_editor.specs.InputLines.{takes_line}
+use Rattle.bx_editor.specs.LineState.{LineState}
+use Rattle.bx_editor.proofs.AnswersKept.{place-in-answer}
 use Rattle.bx_editor.proofs.editor.Editor.lengthen.Goals as goal
 
-pub invariant_of-self : goal.invariant_of-self
-invariant_of-self g c =
+pub insert-requires-clause-place : goal.insert-requires-clause-place
+insert-requires-clause-place g c =
     let i = c.self.inside in
-    let new = c.in_ok-answer.answer in
-    let kept = c.self.invariant in
-    let limit = c.limit_of-limit.result in
-    let longer = c.in_ok-answer.ensures.longer ∙ ap (λ t. lengthened limit t c.args.c) c.as_str.ensures.value in (
-      kept.0,
-      kept.1,
-      kept.2,
-      kept.3,
-      kept.4,
-      answer-longer i.prompt limit (string_bytes i.answer) (string_bytes new) c.args.c (IsUtf8-string_bytes i.answer)
-          (IsUtf8-encode c.args.c c.ranges.c.0) c.limit_of-limit.ensures kept.5 c.requires.narrow longer c.in_ok-answer.ensures.few,
-      kept.6,
-      kept.7,
-    )
+    let d = g.D.BidiData.data i.document.tables in
+    let asked : takes_line i.prompt ≡ true = ap (λ (s : EditorState g.row.D.Denot). takes_line s.editor.prompt) c.self.view_is ∙ c.requires.line in
+    let place = place-in-answer d i.prompt i.cursor.search_state (string_bytes i.query) (string_bytes i.replacement) (string_bytes i.answer) i.input_cursor asked
+    c.self.invariant.7 in
+    subst (λ (x : LineState). IsTextPlace d x.text x.cursor) (sym c.in_ok-line.ensures)
+    (subst (λ t. IsTextPlace d t i.input_cursor) (sym c.as_str.ensures.value) place)
