@@ -8,7 +8,7 @@ use Rattle.bx_ucd.specs.Data.{Data}
 use Rattle.bx_editor.specs.declared.search_state.SearchState.{SearchState}
 use Rattle.bx_editor.specs.declared.search_state.SearchState.TheVariants.{Off, Begun, Typed, WithBegun, WithTyped, Replacing}
 use Rattle.bx_editor.specs.Editor.{Editor, cleared}
-use Rattle.bx_editor.specs.Effects.{Before, before}
+use Rattle.bx_editor.specs.Before.{Before, before}
 use Rattle.bx_editor.specs.Keys.{after_any, after_key, as_left}
 use Rattle.bx_editor.specs.Region.{aged, unselected}
 use Rattle.bx_editor.proofs.InSearch.{any-key}

@@ -27,16 +27,21 @@ use Rattle.bx_editor.specs.declared.search_state.SearchState.TheVariants as sear
 use Rattle.bx_editor.specs.declared.cursor.Soft.{Soft}
 use Rattle.bx_editor.specs.declared.cursor.Soft.TheVariants as softness
 use Rattle.bx_editor.specs.Asking.{without_prompt, with_wrap}
-use Rattle.bx_editor.specs.Editor.{Editor, after_redo, after_save, after_step, after_undo, cleared, stored_behind, with_exchange}
+use Rattle.bx_editor.specs.Editor.{Editor, after_redo, after_step, after_undo, cleared, stored_behind, with_exchange}
+use Rattle.bx_editor.specs.Saving.{after_save}
 use Rattle.bx_editor.specs.Editor.{with_insertion, with_removal, by_group, group_length}
 use Rattle.bx_editor.specs.Effects.{Effect, Types, BeginsLine, Puts, Removes, RemovesWord, Steps, StepsGroup, Goes, GoesByRows, Marks}
 use Rattle.bx_editor.specs.Effects.{Selects}
 use Rattle.bx_editor.specs.Effects.{Unmarks, Copies, Cuts, Seeks, SeeksNext, Saves, Quits, Turns, Helps, AsksLine, AsksName, Tells, Rests}
-use Rattle.bx_editor.specs.Effects.{Before, before, by}
+use Rattle.bx_editor.specs.Effects.{by}
+use Rattle.bx_editor.specs.Before.{Before, before}
 use Rattle.bx_editor.specs.Erasing.{after_erasing, after_erasing_word, after_removing, removed_on}
-use Rattle.bx_editor.specs.Keys.{Answer, Letter, Shortens, GoesBack, Next, Previous, Replaces, Stays, Ends, after_any}
+use Rattle.bx_editor.specs.Keys.{Shortens, after_any}
+use Rattle.bx_editor.specs.declared.answer.Answer.{Answer}
+use Rattle.bx_editor.specs.declared.answer.Answer.TheVariants.{Letter, GoesBack, Next, Previous, Replaces, Stays, Ends}
 use Rattle.bx_editor.specs.Keys.{after_in_paste, after_key, after_press}
-use Rattle.bx_editor.specs.Keys.{after_pressing, answer_of, answered, answered_match, answered_replacement, answered_question, effect_of, is_save}
+use Rattle.bx_editor.specs.Keys.{after_pressing, answered, answered_match, answered_replacement, answered_question, effect_of, is_save}
+use Rattle.bx_editor.specs.Answering.{answer_of}
 use Rattle.bx_editor.specs.Putting.{paste_ended, without_paste, after_put, has_room, line_end, put_in, typed, with_selection_replaced}
 use Rattle.bx_editor.specs.Putting.{yielding}
 use Rattle.bx_editor.specs.Region.{after_copy, after_cut, bytes_in, held_message, is_at_mark, is_empty, line, region, taken, with_held}

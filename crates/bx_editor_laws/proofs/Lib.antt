@@ -5,6 +5,8 @@ pub mod WordKeyExamples
 pub mod WorkKeyExamples
 pub mod SearchExamples
 pub mod StatusExamples
+pub mod KeyKept
+pub mod KeyEnds
 pub mod PasteEnded
 pub mod Unsought
 pub mod Nearest

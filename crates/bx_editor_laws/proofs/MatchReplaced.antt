@@ -25,7 +25,7 @@ use Rattle.bx_editor.specs.declared.message.Message.TheVariants.{TextFull}
 use Rattle.bx_editor.specs.declared.search_state.SearchState.TheVariants.{Off, Replacing}
 use Rattle.bx_editor_laws.specs.AskingLaws.{is_enter}
 use Rattle.bx_editor.specs.Editor.{Editor, cleared, place_after, with_exchange, with_typing}
-use Rattle.bx_editor.specs.Effects.{before}
+use Rattle.bx_editor.specs.Before.{before}
 use Rattle.bx_editor.specs.Keys.{after_any, after_key, as_left}
 use Rattle.bx_editor.specs.Putting.{is_paste, only_paste}
 use Rattle.bx_editor_laws.specs.ReplaceLaws.{AreTheMatches, DoesReplace, EnterReplaces, FindPassesOver, GoesOn, HasReplacedAll, HasReplacedOne}

@@ -14,15 +14,21 @@ use Rattle.bx_editor.specs.declared.search_state.SearchPurpose.TheVariants as pu
 use Rattle.bx_editor.specs.declared.search_state.SearchState.{SearchState}
 use Rattle.bx_editor.specs.declared.search_state.SearchState.TheVariants.{Off, Begun, Typed, WithBegun, WithTyped, Replacing}
 use Rattle.bx_editor.specs.Asking.{without_prompt}
-use Rattle.bx_editor.specs.Editor.{Editor, after_save, at_start, cleared}
-use Rattle.bx_editor.specs.Effects.{Effect, Seeks, SeeksNext, AsksLine, AsksName, Before, before, by}
-use Rattle.bx_editor.specs.Keys.{Answer, Letter, Shortens, GoesBack, Next, Previous, Replaces, Stays, Ends, after_any, after_asking, after_in_paste}
-use Rattle.bx_editor.specs.Keys.{after_key, after_press, after_user, answer_of, answered, answered_match, answered_replacement, effect_of}
+use Rattle.bx_editor.specs.Editor.{Editor, at_start, cleared}
+use Rattle.bx_editor.specs.Saving.{after_save}
+use Rattle.bx_editor.specs.Effects.{Effect, Seeks, SeeksNext, AsksLine, AsksName, by}
+use Rattle.bx_editor.specs.Before.{Before, before}
+use Rattle.bx_editor.specs.Keys.{Shortens, after_any, after_asking, after_in_paste}
+use Rattle.bx_editor.specs.declared.answer.Answer.{Answer}
+use Rattle.bx_editor.specs.declared.answer.Answer.TheVariants.{Letter, GoesBack, Next, Previous, Replaces, Stays, Ends}
+use Rattle.bx_editor.specs.Keys.{after_key, after_press, after_user, answered, answered_match, answered_replacement, effect_of}
+use Rattle.bx_editor.specs.Answering.{answer_of}
 use Rattle.bx_editor.specs.Putting.{paste_begun, paste_ended, with_paste, is_paste}
 use Rattle.bx_editor.specs.Replacing.{after_asking_replacement, after_match_letter, after_replacement_letter, after_replacing, after_showing, after_sought_end}
 use Rattle.bx_editor.specs.Replacing.{after_sought_letter, asked_at, is_replacing, match_stop, matches_on, next_match, replacement_typed, shown_at}
 use Rattle.bx_editor.specs.Replacing.{with_replacement}
-use Rattle.bx_editor.specs.Search.{after_beginning, after_letter, is_no_letter, kept, landed, landing_from, lengthened, longest_query, next_or_start}
+use Rattle.bx_editor.specs.Search.{after_beginning, after_letter, kept, landed, landing_from, lengthened, longest_query, next_or_start}
+use Rattle.bx_editor.specs.InputLines.{is_no_letter}
 use Rattle.bx_editor.specs.Search.{search_from, sought, with_query, without_search}
 use Rattle.bx_editor.specs.Region.{unselected}
 use Rattle.bx_editor_laws.specs.Laws.{after_typing}

@@ -12,10 +12,13 @@ use Rattle.bx_editor.specs.declared.search_state.SearchState.{SearchState}
 use Rattle.bx_editor.specs.declared.search_state.SearchState.TheVariants.{Off, Begun, Typed, WithBegun, WithTyped, Replacing}
 use Rattle.bx_editor.specs.declared.undo_groups.typing.Typing.{Typing}
 use Rattle.bx_editor.specs.Editor.{Editor, cleared, with_insertion}
-use Rattle.bx_editor.specs.Effects.{Before, before}
+use Rattle.bx_editor.specs.Before.{Before, before}
 use Rattle.bx_editor.specs.Functions.{is_told_key}
-use Rattle.bx_editor.specs.Keys.{Answer, Letter, Shortens, GoesBack, Next, Previous, Replaces, Stays, Ends, after_any, after_key, after_press}
-use Rattle.bx_editor.specs.Keys.{after_user, answer_of, answered, effect_of, ends_paste}
+use Rattle.bx_editor.specs.Keys.{Shortens, after_any, after_key, after_press}
+use Rattle.bx_editor.specs.declared.answer.Answer.{Answer}
+use Rattle.bx_editor.specs.declared.answer.Answer.TheVariants.{Letter, GoesBack, Next, Previous, Replaces, Stays, Ends}
+use Rattle.bx_editor.specs.Keys.{after_user, answered, effect_of, ends_paste}
+use Rattle.bx_editor.specs.Answering.{answer_of}
 use Rattle.bx_editor.specs.Putting.{ended_with, has_room, is_paste, longer, paste_begun, paste_ended, pasted_with, pastes_crlf, put_in, with_paste}
 use Rattle.bx_editor.specs.Putting.{with_pasted}
 use Rattle.bx_editor.specs.Putting.{with_selection_replaced, without_paste}

@@ -25,14 +25,15 @@ use Rattle.bx_editor.specs.declared.cursor.Soft.{Soft}
 use Rattle.bx_editor.specs.declared.cursor.Soft.TheVariants as softness
 use Rattle.bx_editor.specs.Editor.{Editor, cleared, rows, text_height, with_place}
 use Rattle.bx_editor.specs.Functions.{HasRows}
-use Rattle.bx_editor.specs.Effects.{Before, before, pointed_place}
+use Rattle.bx_editor.specs.Before.{Before, before}
+use Rattle.bx_editor.specs.Pointing.{pointed_place}
 use Rattle.bx_editor.specs.Keys.{after_any, after_key}
 use Rattle.bx_editor.specs.Picture.{blank_picture, next_top, text_picture, scrolled}
 use Rattle.bx_editor.specs.Prompts.{HasOnePrompt}
 use Rattle.bx_editor.specs.Region.{aged, mark_left, soft_left, unselected}
 use Rattle.bx_editor_laws.specs.WorkLaws.{IsFullEnd, own_row}
 use Rattle.bx_editor_laws.specs.PointingLaws.{after_point, cursor_column, cursor_row, PointStays, PointTakesUnits, PointTwiceIsOnce, StandsAt}
-use Rattle.bx_editor.proofs.InSearch.{any-key, behind}
+use Rattle.bx_editor.proofs.InSearch.{any-key}
 use Rattle.bx_editor.proofs.TopOnce.{top-stays}
 
 -- ---- the key

@@ -17,10 +17,10 @@ use Rattle.bx_editor.specs.declared.search_state.SearchState.TheVariants.{Off, B
 use Rattle.bx_editor.specs.Asking.{without_prompt}
 use Rattle.bx_editor.specs.Editor.{Editor, cleared, place_after, with_insertion, with_removal}
 use Rattle.bx_editor.specs.declared.cursor.Soft.TheVariants as softness
-use Rattle.bx_editor.specs.Effects.{Before, before}
+use Rattle.bx_editor.specs.Before.{Before, before}
 use Rattle.bx_editor.specs.Putting.{after_put, put_in, with_selection_replaced}
 use Rattle.bx_editor.specs.Region.{is_selection, after_copy, after_cut, bytes_in, held_message, is_empty, line, region, taken, with_held}
-use Rattle.bx_editor.proofs.InSearch.{any-key, behind as left_behind}
+use Rattle.bx_editor.proofs.InSearch.{any-key}
 use Rattle.bx_editor.specs.Keys.{after_any, after_key}
 use Rattle.bx_editor.specs.Functions.{after_keys}
 use Rattle.bx_editor.specs.Search.{without_search}

@@ -23,8 +23,12 @@ use Rattle.bx_editor.specs.Asking.{without_prompt, after_wrapping, spans_lines, 
 use Rattle.bx_editor_laws.specs.AskingLaws.{IsUntouched, QuestionsChangeThemselves, StaysAsked, erases, types}
 use Rattle.bx_editor.specs.Editor.{Editor, cleared, with_insertion, with_typing}
 use Rattle.bx_editor.specs.Effects.{Effect}
-use Rattle.bx_editor.specs.Effects.{AsksLine, AsksName, Before, before, by}
-use Rattle.bx_editor.specs.Keys.{Answer, Letter, Shortens, GoesBack, Stays, after_any, after_asking, after_key, answer_of, answered_question, as_left, effect_of}
+use Rattle.bx_editor.specs.Effects.{AsksLine, AsksName, by}
+use Rattle.bx_editor.specs.Before.{Before, before}
+use Rattle.bx_editor.specs.Keys.{Shortens, after_any, after_asking, after_key, answered_question, as_left, effect_of}
+use Rattle.bx_editor.specs.declared.answer.Answer.{Answer}
+use Rattle.bx_editor.specs.declared.answer.Answer.TheVariants.{Letter, GoesBack, Stays}
+use Rattle.bx_editor.specs.Answering.{answer_of}
 use Rattle.bx_editor.specs.Functions.{is_told_key}
 use Rattle.bx_editor_laws.specs.Laws.{after_typing}
 use Rattle.bx_editor.specs.Putting.{paste_begun, paste_ended, is_paste, only_paste}

@@ -28,16 +28,20 @@ use Rattle.bx_editor.specs.declared.search_state.SearchState.TheVariants.{Off, B
 use Rattle.bx_editor.specs.Asking.{without_prompt}
 use Rattle.bx_editor.specs.Editor.{Editor, at_start, cleared, rows, with_exchange, with_insertion, with_size, with_typing}
 use Rattle.bx_editor.specs.Functions.{HasRows}
-use Rattle.bx_editor.specs.Effects.{Before, before}
-use Rattle.bx_editor.specs.Keys.{Answer, Letter, Shortens, GoesBack, Next, Previous, Replaces, Stays, Ends, after_any, after_asking, after_in_paste, after_key}
-use Rattle.bx_editor.specs.Keys.{after_press, after_pressing, after_user, answer_of, answered, answered_match, answered_replacement, effect_of}
+use Rattle.bx_editor.specs.Before.{Before, before}
+use Rattle.bx_editor.specs.Keys.{Shortens, after_any, after_asking, after_in_paste, after_key}
+use Rattle.bx_editor.specs.declared.answer.Answer.{Answer}
+use Rattle.bx_editor.specs.declared.answer.Answer.TheVariants.{Letter, GoesBack, Next, Previous, Replaces, Stays, Ends}
+use Rattle.bx_editor.specs.Keys.{after_press, after_pressing, after_user, answered, answered_match, answered_replacement, effect_of}
+use Rattle.bx_editor.specs.Answering.{answer_of}
 use Rattle.bx_editor_laws.specs.Laws.{after_typing}
 use Rattle.bx_editor.specs.Putting.{after_paste_start, paste_ended, with_paste, without_paste, is_paste, with_selection_replaced}
 use Rattle.bx_editor_laws.specs.ReplaceLaws.{HaveRows, ShownStands}
 use Rattle.bx_editor.specs.Replacing.{after_asking_replacement, after_ending, after_replacement_letter, after_replacing, after_replacing_all}
 use Rattle.bx_editor.specs.Replacing.{after_shorter_replacement, after_showing, after_sought_end, after_sought_letter, asked_at, at_match, is_replacing}
 use Rattle.bx_editor.specs.Replacing.{match_stop, matches_on, next_match, on_from, shown_at, with_matches_replaced, with_replacement}
-use Rattle.bx_editor.specs.Search.{after_letter, forward, is_no_letter, kept, landed, landing_from, lengthened, longest_query, match_or, not_found, reading}
+use Rattle.bx_editor.specs.Search.{after_letter, forward, kept, landed, landing_from, lengthened, longest_query, match_or, not_found, reading}
+use Rattle.bx_editor.specs.InputLines.{is_no_letter}
 use Rattle.bx_editor.specs.Search.{search_from, sought, with_query, without_search}
 use Rattle.bx_editor.proofs.EffectsKept.{start-keeps}
 use Rattle.bx_editor.proofs.InSearch.{each-key}

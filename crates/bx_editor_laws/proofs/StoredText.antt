@@ -27,14 +27,19 @@ use Rattle.bx_editor.specs.declared.search_state.SearchState.TheVariants as sear
 use Rattle.bx_editor.specs.declared.cursor.Soft.{Soft}
 use Rattle.bx_editor.specs.declared.cursor.Soft.TheVariants as softness
 use Rattle.bx_editor.specs.Asking.{without_prompt, with_wrap}
-use Rattle.bx_editor.specs.Editor.{Editor, after_redo, after_quit, after_save, after_step, after_undo, at_start, cleared, place_after}
+use Rattle.bx_editor.specs.Editor.{Editor, after_redo, after_quit, after_step, after_undo, at_start, cleared, place_after}
+use Rattle.bx_editor.specs.Saving.{after_save}
 use Rattle.bx_editor.specs.Editor.{stored_behind, with_exchange, with_insertion, with_removal, by_group, is_changed_at}
 use Rattle.bx_editor.specs.Editor.{group_goal, group_length}
 use Rattle.bx_editor.specs.Effects.{Effect, Types, BeginsLine, Puts, Removes, RemovesWord, Steps, StepsGroup, Goes, GoesByRows, Marks, Selects}
-use Rattle.bx_editor.specs.Effects.{Unmarks, Copies, Cuts, Seeks, SeeksNext, Saves, Quits, Turns, Helps, AsksLine, AsksName, Tells, Rests, Before, before, by}
+use Rattle.bx_editor.specs.Effects.{Unmarks, Copies, Cuts, Seeks, SeeksNext, Saves, Quits, Turns, Helps, AsksLine, AsksName, Tells, Rests, by}
+use Rattle.bx_editor.specs.Before.{Before, before}
 use Rattle.bx_editor.specs.Erasing.{after_erasing, after_erasing_word, after_removing, removed_on}
-use Rattle.bx_editor.specs.Keys.{Answer, Letter, Shortens, GoesBack, Stays, Ends, after_any, after_asking, after_in_paste, after_key, after_press, after_pressing, after_user}
-use Rattle.bx_editor.specs.Keys.{answer_of, answered, answered_match, answered_replacement, answered_question, effect_of, is_save}
+use Rattle.bx_editor.specs.Keys.{Shortens, after_any, after_asking, after_in_paste, after_key, after_press, after_pressing, after_user}
+use Rattle.bx_editor.specs.declared.answer.Answer.{Answer}
+use Rattle.bx_editor.specs.declared.answer.Answer.TheVariants.{Letter, GoesBack, Stays, Ends}
+use Rattle.bx_editor.specs.Keys.{answered, answered_match, answered_replacement, answered_question, effect_of, is_save}
+use Rattle.bx_editor.specs.Answering.{answer_of}
 use Rattle.bx_editor_laws.specs.Laws.{after_typing}
 use Rattle.bx_editor.specs.Putting.{paste_ended, without_paste, after_character, after_new_line, after_put, has_room, line_end, put_in}
 use Rattle.bx_editor.specs.Putting.{typed, with_selection_replaced, yielding}

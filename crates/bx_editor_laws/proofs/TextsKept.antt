@@ -14,9 +14,14 @@ use Rattle.bx_editor.specs.declared.questions.answers.Prompt.TheVariants as prom
 use Rattle.bx_editor.specs.declared.search_state.SearchState.{SearchState}
 use Rattle.bx_editor.specs.declared.search_state.SearchState.TheVariants.{Off, Begun, Typed, WithBegun, WithTyped, Replacing}
 use Rattle.bx_editor.specs.Asking.{without_prompt}
-use Rattle.bx_editor.specs.Editor.{Editor, after_quit, after_save, cleared}
-use Rattle.bx_editor.specs.Effects.{Effect, Saves, Quits, Turns, Marks, Helps, AsksLine, AsksName, Tells, Unmarks, Selects, Rests, Before, before, by}
-use Rattle.bx_editor.specs.Keys.{Answer, GoesBack, Stays, Ends, after_any, after_key, after_press, after_user, answer_of, answered, answered_match}
+use Rattle.bx_editor.specs.Editor.{Editor, after_quit, cleared}
+use Rattle.bx_editor.specs.Saving.{after_save}
+use Rattle.bx_editor.specs.Effects.{Effect, Saves, Quits, Turns, Marks, Helps, AsksLine, AsksName, Tells, Unmarks, Selects, Rests, by}
+use Rattle.bx_editor.specs.Before.{Before, before}
+use Rattle.bx_editor.specs.Keys.{after_any, after_key, after_press, after_user, answered, answered_match}
+use Rattle.bx_editor.specs.declared.answer.Answer.{Answer}
+use Rattle.bx_editor.specs.declared.answer.Answer.TheVariants.{GoesBack, Stays, Ends}
+use Rattle.bx_editor.specs.Answering.{answer_of}
 use Rattle.bx_editor.specs.Keys.{answered_question, answered_replacement, effect_of, ends_paste, is_edit_or_move, may_refuse}
 use Rattle.bx_editor.specs.Functions.{is_told_key}
 use Rattle.bx_editor.specs.Putting.{paste_begun}

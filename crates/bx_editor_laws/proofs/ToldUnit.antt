@@ -30,7 +30,7 @@ use Rattle.bx_editor.specs.declared.search_state.SearchState.{SearchState}
 use Rattle.bx_editor.specs.declared.search_state.SearchState.TheVariants.{Off, Begun, Typed, WithBegun, WithTyped, Replacing}
 use Rattle.bx_editor_laws.specs.AskingLaws.{IsUntouched, TellShows, TellsWhatStands}
 use Rattle.bx_editor.specs.Editor.{Editor, cleared, rows}
-use Rattle.bx_editor.specs.Effects.{Before, before}
+use Rattle.bx_editor.specs.Before.{Before, before}
 use Rattle.bx_editor.specs.Keys.{after_any, as_left}
 use Rattle.bx_editor.specs.Region.{aged}
 use Rattle.bx_editor.specs.Status.{paragraph_number, status_line, status_text, unit_number, told_at_place}

@@ -46,6 +46,6 @@ pub use selection_laws::{
 };
 pub use word_laws::word_keys_erase;
 pub use work_laws::{
-    column_is_kept, erase_point_leaves_beginning, find_next_is_find_twice, kept_moves_go_back,
-    line_moves_go_back, page_moves_go_back,
+    column_is_kept, erase_point_leaves_beginning, find_next_is_find_twice,
+    find_previous_is_find_back, kept_moves_go_back, line_moves_go_back, page_moves_go_back,
 };
