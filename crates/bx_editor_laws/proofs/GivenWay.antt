@@ -203,7 +203,7 @@ line-yields d e key typing has =
 
 insert-by : (d : Data) (e : Editor) (c : ℕ) (tab none : Bool) → (c == 0x9) ≡ tab → HasSelection e
     → let one : ℕ → Editor = λ k. typed d e.typing (cleared e) (encode_utf8 k) (kind_of (d.class k)) in
-    let spaces = replicate (spaces_on e.tab_width (units_in_line d e (yielding e).0)) 0x20 in
+    let spaces : List ℕ = replicate (spaces_on e.tab_width (units_in_line d e (yielding e).0)) 0x20 in
     Yields d e (if tab && not none then spaces else encode_utf8 c)
     (as_left (Insert c) (if tab then (if none then one 0x9 else typed d e.typing (cleared e) spaces Blank) else one c))
 insert-by d e c true true is has =

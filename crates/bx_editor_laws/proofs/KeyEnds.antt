@@ -85,7 +85,7 @@ done_by d fault e key = let free = without_prompt (cleared e) in as_left key (by
 
 module _ (d : Data) (fault : Option StoreFault) (e : Editor) (key : Key) (settled : e.pasted ≡ None) (pressed : is_told_key key ≡ false)
     (accepted : refuses_replacing e key ≡ false) where
-  user-key : after_key d fault e key ≡ as_left key (after_any d fault (before e) e.prompt e.search_state (cleared e) key)
+  pub user-key : after_key d fault e key ≡ as_left key (after_any d fault (before e) e.prompt e.search_state (cleared e) key)
   user-key =
       any-key d fault e key settled pressed
       ∙ ap (λ b. as_left key (if b then by d fault (before e) (cleared e) Refuses else after_any d fault (before e) e.prompt e.search_state (cleared e) key)) accepted

@@ -7,6 +7,8 @@ pub mod SearchExamples
 pub mod StatusExamples
 pub mod KeyKept
 pub mod KeyEnds
+pub mod LineKept
+pub mod LineEnd
 pub mod PasteEnded
 pub mod Unsought
 pub mod Nearest

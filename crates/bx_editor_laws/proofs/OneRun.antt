@@ -235,7 +235,7 @@ letter-open : (d : Data) (e : Editor) (c : ℕ) (pasted : Option (List ℕ)) →
 letter-open d e c None is some h = absurd (some refl)
 letter-open d e c (Some list) is some h = h
 
-pub paste-open : (d : Data) (first e : Editor) (cs : List ℕ) → Waits first e → IsOpen e → IsOpen (after_keys d None e (map Insert cs ++ PasteEnd ∷ []))
+paste-open : (d : Data) (first e : Editor) (cs : List ℕ) → Waits first e → IsOpen e → IsOpen (after_keys d None e (map Insert cs ++ PasteEnd ∷ []))
 paste-open d first e [] waits h = list-open d e e.pasted h
 paste-open d first e (c ∷ cs) waits h =
     paste-open d first (after_key d None e (Insert c)) cs (letter-waits d first e c waits)

@@ -36,10 +36,10 @@ run_to e content place changed = record (stepped_to e content place) { changed =
 -- ---- Undo and Redo, one by one; each ends a search and a question
 
 step-works : (e : Editor) (content : Edited) (place : ℕ) → DoesWork e → DoesWork (stepped_to e content place)
-step-works e content place works = record { works = works.settled; other = λ over. cc over; writes = works.writes }
+step-works e content place works = record { settled = works.settled; other = λ over. cc over; writes = works.writes }
 
 pub run-works : (e : Editor) (content : Edited) (place : ℕ) (changed : Bool) → DoesWork e → DoesWork (run_to e content place changed)
-run-works e content place changed works = record { works = works.settled; other = λ over. cc over; writes = works.writes }
+run-works e content place changed works = record { settled = works.settled; other = λ over. cc over; writes = works.writes }
 
 undo-first : (d : Data) (e : Editor) (text : List ℕ) (edit : Edit) (past future : List Edit) → DoesWork e
     → after_key d None (record e { content = version text (edit ∷ past) future }) Undo
