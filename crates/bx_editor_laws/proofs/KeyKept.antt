@@ -38,7 +38,18 @@ use Rattle.bx_editor.proofs.QuestionSteps.{IsKept, letter-keeps, name-keeps, que
 use Rattle.bx_editor.proofs.Saved.{IsKeptSaving, deciding-keeps, naming-keeps, saving-keeps}
 use Rattle.bx_editor.proofs.Searches.{IsKeptSeeking, match-keeps, query-keeps, replacement-keeps, typed-in-search}
 
--- edits, undo and redo keep this property of editors, and so does all that leaves text and history
+-- Edits, undo and redo keep this property of editors, and so does all that leaves text and history, and what a paste has brought.
+pub record IsKeptByUser (d : Data) (P : Editor → Type 0) : Type 0 where
+  pub inserted : (e : Editor) (new : List ℕ) (on : Bool) → P e → P (with_insertion d e new on)
+  pub lined : (e : Editor) (new : List ℕ) → P e → P (with_line_put d e new)
+  pub removed : (e : Editor) (start stop : ℕ) (on : Bool) → P e → P (with_removal d e start stop on)
+  pub wrapped : (e : Editor) (opener closer : List ℕ) → P e → P (with_wrap d e opener closer)
+  pub exchanged : (e : Editor) (start stop : ℕ) (new : List ℕ) → P e → P (with_exchange d e start stop new)
+  pub stepped : (way : HistoryStep) (e : Editor) → P e → P (after_step way e)
+  pub run : (way : HistoryStep) (e : Editor) → P e → P (after_group_step way e)
+  pub same : (e new : Editor) → new.content ≡ e.content → new.read_only ≡ e.read_only → new.pasted ≡ e.pasted → P e → P new
+
+-- whatever a paste has brought
 pub record IsKeptByEdits (d : Data) (P : Editor → Type 0) : Type 0 where
   pub inserted : (e : Editor) (new : List ℕ) (on : Bool) → P e → P (with_insertion d e new on)
   pub lined : (e : Editor) (new : List ℕ) → P e → P (with_line_put d e new)
@@ -49,54 +60,54 @@ pub record IsKeptByEdits (d : Data) (P : Editor → Type 0) : Type 0 where
   pub run : (way : HistoryStep) (e : Editor) → P e → P (after_group_step way e)
   pub same : (e new : Editor) → new.content ≡ e.content → new.read_only ≡ e.read_only → P e → P new
 
-module _ (d : Data) (P : Editor → Type 0) (keeps : IsKeptByEdits d P) where
+module _ (d : Data) (P : Editor → Type 0) (keeps : IsKeptByUser d P) where
   either : (b : Bool) (p q : Editor) → P p → P q → P (if b then p else q)
   either true p q h k = h
   either false p q h k = k
 
-  pressing : kept.IsKeptPressing d P
+  pub pressing : kept.IsKeptPressing d P
   pressing = record {
     inserted = λ e new on h. keeps.inserted e new on h;
     lined = λ e new h. keeps.lined e new h;
     removed = λ e start stop on h. keeps.removed e start stop on h;
     stepped = λ way e h. keeps.stepped way e h;
     run = λ way e h. keeps.run way e h;
-    quit = λ e ended message h. keeps.same e (record e { quit_before = true; ended = ended; message = message }) refl refl h;
-    based = λ e base h. keeps.same e (with_base e base) refl refl h;
-    gone = λ e place goal h. keeps.same e (record e { place = place; goal = goal }) refl refl h;
-    pointed = λ e clicks pressed h. keeps.same e (record e { clicks = clicks; pressed = pressed }) refl refl h;
+    quit = λ e ended message h. keeps.same e (record e { quit_before = true; ended = ended; message = message }) refl refl refl h;
+    based = λ e base h. keeps.same e (with_base e base) refl refl refl h;
+    gone = λ e place goal h. keeps.same e (record e { place = place; goal = goal }) refl refl refl h;
+    pointed = λ e clicks pressed h. keeps.same e (record e { clicks = clicks; pressed = pressed }) refl refl refl h;
     marked = λ e mark soft held whole_line h.
-        keeps.same e (record e { mark = mark; soft = soft; held = held; whole_line = whole_line }) refl refl h;
-    told = λ e message typing h. keeps.same e (record e { message = message; typing = typing }) refl refl h;
+        keeps.same e (record e { mark = mark; soft = soft; held = held; whole_line = whole_line }) refl refl refl h;
+    told = λ e message typing h. keeps.same e (record e { message = message; typing = typing }) refl refl refl h;
   }
 
   saving : IsKeptSaving P
   saving = record {
     stored = λ e stored changed home message h.
-        keeps.same e (record e { stored = stored; changed = changed; home = home; message = message }) refl refl h;
-    asked = λ e prompt answer cursor h. keeps.same e (record e { prompt = prompt; answer = answer; input_cursor = cursor }) refl refl h;
-    named = λ e name answer h. keeps.same e (record e { name = name; answer = answer }) refl refl h;
+        keeps.same e (record e { stored = stored; changed = changed; home = home; message = message }) refl refl refl h;
+    asked = λ e prompt answer cursor h. keeps.same e (record e { prompt = prompt; answer = answer; input_cursor = cursor }) refl refl refl h;
+    named = λ e name answer h. keeps.same e (record e { name = name; answer = answer }) refl refl refl h;
   }
 
   asks : IsKept d P
   asks = record {
     inserted = λ e new h. keeps.inserted e new false h;
     wrapped = λ e opener closer h. keeps.wrapped e opener closer h;
-    told = λ e message h. keeps.same e (record e { message = Some message }) refl refl h;
-    placed = λ e place h. keeps.same e (with_place e place) refl refl h;
-    typed = λ e typing h. keeps.same e (with_typing e typing) refl refl h;
-    asked = λ e prompt answer cursor h. keeps.same e (record e { prompt = prompt; answer = answer; input_cursor = cursor }) refl refl h;
-    unasked = λ e h. keeps.same e (without_prompt e) refl refl h;
-    moved = λ e text m h. keeps.same e (after_moving_in d e text m) refl refl h;
+    told = λ e message h. keeps.same e (record e { message = Some message }) refl refl refl h;
+    placed = λ e place h. keeps.same e (with_place e place) refl refl refl h;
+    typed = λ e typing h. keeps.same e (with_typing e typing) refl refl refl h;
+    asked = λ e prompt answer cursor h. keeps.same e (record e { prompt = prompt; answer = answer; input_cursor = cursor }) refl refl refl h;
+    unasked = λ e h. keeps.same e (without_prompt e) refl refl refl h;
+    moved = λ e text m h. keeps.same e (after_moving_in d e text m) refl refl refl h;
     saved = λ fault e h. naming-keeps P saving fault e h;
   }
 
   seeks : IsKeptSeeking d P
   seeks = record {
     exchanged = λ e start stop new h. keeps.exchanged e start stop new h;
-    told = λ e message h. keeps.same e (record e { message = message }) refl refl h;
-    placed = λ e place h. keeps.same e (with_place e place) refl refl h;
-    typed = λ e typing h. keeps.same e (with_typing e typing) refl refl h;
+    told = λ e message h. keeps.same e (record e { message = message }) refl refl refl h;
+    placed = λ e place h. keeps.same e (with_place e place) refl refl refl h;
+    typed = λ e typing h. keeps.same e (with_typing e typing) refl refl refl h;
     sought = λ e search_state purpose origin query other at count cursor h.
         keeps.same e (record e {
           search_state = search_state;
@@ -107,15 +118,7 @@ module _ (d : Data) (P : Editor → Type 0) (keeps : IsKeptByEdits d P) where
           at = at;
           count = count;
           input_cursor = cursor;
-        }) refl refl h;
-  }
-
-  pastes : kept.IsKeptPasting P
-  pastes = record {
-    pasted = λ e pasted message typing h. keeps.same e (record e { pasted = pasted; message = message; typing = typing }) refl refl h;
-    lengthened = λ e pasted soft h.
-        keeps.same e (record e { pasted = pasted; quit_before = false; goal = None; soft = soft; clicks = None; pressed = None }) refl refl h;
-    unpressed = λ e h. keeps.same e (unpressed e) refl refl h;
+        }) refl refl refl h;
   }
 
   -- ---- a key outside a search and a question
@@ -125,26 +128,26 @@ module _ (d : Data) (P : Editor → Type 0) (keeps : IsKeptByEdits d P) where
       let top = wheel_top d e way in
       let still : Editor = record e { message = was.message } in
       either (shows_place d e top) (if top == row_home (rows d e) e.top then still else e) (carried d e top)
-      (either (top == row_home (rows d e) e.top) still e (keeps.same e still refl refl h) h) (keeps.same e (carried d e top) refl refl h)
+      (either (top == row_home (rows d e) e.top) still e (keeps.same e still refl refl refl h) h) (keeps.same e (carried d e top) refl refl refl h)
 
   asking-keeps : (fault : Option StoreFault) (was : Before) (e : Editor) (one : Effect) → P e → kept.asks_or_seeks one ≡ true → P (by d fault was e one)
   asking-keeps fault was e (Wheels way) h is = wheel was e way h
-  asking-keeps fault was e (Seeks purpose) h is = keeps.same e (after_beginning purpose (unselected e)) refl refl h
+  asking-keeps fault was e (Seeks purpose) h is = keeps.same e (after_beginning purpose (unselected e)) refl refl refl h
   asking-keeps fault was e SeeksNext h is =
       let free = unselected e in
       let begun = after_beginning purposes.Find free in
       let gone = search_from d (next_or_start d free) (sought_alone free) in
-      either (length (sought d free) == 0) begun gone (keeps.same e begun refl refl h) (keeps.same e gone refl refl h)
+      either (length (sought d free) == 0) begun gone (keeps.same e begun refl refl refl h) (keeps.same e gone refl refl refl h)
   asking-keeps fault was e SeeksPrevious h is =
       let free = unselected e in
       let begun = after_beginning purposes.Find free in
       let gone = search_back d (sought_alone free) in
-      either (length (sought d free) == 0) begun gone (keeps.same e begun refl refl h) (keeps.same e gone refl refl h)
+      either (length (sought d free) == 0) begun gone (keeps.same e begun refl refl refl h) (keeps.same e gone refl refl refl h)
   asking-keeps fault was e Saves h is = saving-keeps P saving fault e h
-  asking-keeps fault was e AsksLine h is = keeps.same e (by d fault was e AsksLine) refl refl h
-  asking-keeps fault was e AsksName h is = keeps.same e (by d fault was e AsksName) refl refl h
-  asking-keeps fault was e AsksFile h is = keeps.same e (asking_name e) refl refl h
-  asking-keeps fault was e AsksOverwrite h is = keeps.same e (asking_over e) refl refl h
+  asking-keeps fault was e AsksLine h is = keeps.same e (by d fault was e AsksLine) refl refl refl h
+  asking-keeps fault was e AsksName h is = keeps.same e (by d fault was e AsksName) refl refl refl h
+  asking-keeps fault was e AsksFile h is = keeps.same e (asking_name e) refl refl refl h
+  asking-keeps fault was e AsksOverwrite h is = keeps.same e (asking_over e) refl refl refl h
   asking-keeps fault was e _ h is = absurd (cc is)
 
   pub effect-keeps : (fault : Option StoreFault) (was : Before) (e : Editor) (one : Effect) → P e → P (by d fault was e one)
@@ -166,13 +169,13 @@ module _ (d : Data) (P : Editor → Type 0) (keeps : IsKeptByEdits d P) where
   line-put : (e : Editor) → P e → P (after_line_put d e)
   line-put e h =
       line-put-keeps d P (record {
-        cleared = λ x k. keeps.same x (cleared x) refl refl k;
-        told = λ x k. keeps.same x (record x { message = Some NothingToPut }) refl refl k;
+        cleared = λ x k. keeps.same x (cleared x) refl refl refl k;
+        told = λ x k. keeps.same x (record x { message = Some NothingToPut }) refl refl refl k;
         typed = λ x c k. typed x.prompt x c k;
       }) e h
 
   free : (e : Editor) → P e → P (without_search e)
-  free e h = keeps.same e (without_search e) refl refl h
+  free e h = keeps.same e (without_search e) refl refl refl h
 
   answer : (fault : Option StoreFault) (was : Before) (e : Editor) (key : Key) (one : Answer) → P e → P (answered d fault was e key one)
   answer fault was e key one h =
@@ -192,7 +195,7 @@ module _ (d : Data) (P : Editor → Type 0) (keeps : IsKeptByEdits d P) where
       (λ way. wheel was e way h)
 
   unasked : (e : Editor) → P e → P (without_prompt e)
-  unasked e h = keeps.same e (without_prompt e) refl refl h
+  unasked e h = keeps.same e (without_prompt e) refl refl refl h
 
   question : (fault : Option StoreFault) (was : Before) (e : Editor) (key : Key) (one : Answer) → P e → P (answered_question d fault was e key one)
   question fault was e key one h =
@@ -205,8 +208,8 @@ module _ (d : Data) (P : Editor → Type 0) (keeps : IsKeptByEdits d P) where
   overwrite : (fault : Option StoreFault) (was : Before) (e : Editor) (one : Answer) → P e → P (answered_overwrite fault was e one)
   overwrite fault was e (answers.Letter c) h =
       either (is_paste was.typing) (with_typing e was.typing) (after_deciding fault (without_prompt e) c)
-      (keeps.same e (with_typing e was.typing) refl refl h) (deciding-keeps P saving fault (without_prompt e) c (unasked e h))
-  overwrite fault was e answers.Stays h = keeps.same e (with_typing e was.typing) refl refl h
+      (keeps.same e (with_typing e was.typing) refl refl refl h) (deciding-keeps P saving fault (without_prompt e) c (unasked e h))
+  overwrite fault was e answers.Stays h = keeps.same e (with_typing e was.typing) refl refl refl h
   overwrite fault was e (answers.Erases how) h = unasked e h
   overwrite fault was e (answers.Moves m) h = unasked e h
   overwrite fault was e answers.PutsIn h = unasked e h
@@ -234,24 +237,46 @@ module _ (d : Data) (P : Editor → Type 0) (keeps : IsKeptByEdits d P) where
   any fault was prompts.File search_state e key h = question fault was e key (answer_of key) h
   any fault was prompts.Overwrite search_state e key h = overwrite fault was e (answer_of key) h
 
-  user : (fault : Option StoreFault) (e : Editor) (key : Key) → P e → P (after_user d fault e key)
-  user fault e key h =
+  -- a key that the user presses
+  pub user-keeps : (fault : Option StoreFault) (e : Editor) (key : Key) → P e → P (after_user d fault e key)
+  user-keeps fault e key h =
       let was = before e in
       let plain = cleared e in
-      let k : P plain = keeps.same e plain refl refl h in
+      let k : P plain = keeps.same e plain refl refl refl h in
       let refused = by d fault was plain Refuses in
       let new = after_any d fault was e.prompt e.search_state plain key in
       let left = if refuses_replacing e key then refused else new in
-      keeps.same left (as_left key left) refl refl
+      keeps.same left (as_left key left) refl refl refl
       (either (refuses_replacing e key) refused new (effect-keeps fault was plain Refuses k) (any fault was e.prompt e.search_state plain key k))
+
+by-user : (d : Data) (P : Editor → Type 0) → IsKeptByEdits d P → IsKeptByUser d P
+by-user d P keeps = record {
+  inserted = λ e new on h. keeps.inserted e new on h;
+  lined = λ e new h. keeps.lined e new h;
+  removed = λ e start stop on h. keeps.removed e start stop on h;
+  wrapped = λ e opener closer h. keeps.wrapped e opener closer h;
+  exchanged = λ e start stop new h. keeps.exchanged e start stop new h;
+  stepped = λ way e h. keeps.stepped way e h;
+  run = λ way e h. keeps.run way e h;
+  same = λ e new content looked pasted h. keeps.same e new content looked h;
+}
+
+module _ (d : Data) (P : Editor → Type 0) (keeps : IsKeptByEdits d P) where
+  pastes : kept.IsKeptPasting P
+  pastes = record {
+    pasted = λ e pasted message typing h. keeps.same e (record e { pasted = pasted; message = message; typing = typing }) refl refl h;
+    lengthened = λ e pasted soft h.
+        keeps.same e (record e { pasted = pasted; quit_before = false; goal = None; soft = soft; clicks = None; pressed = None }) refl refl h;
+    unpressed = λ e h. keeps.same e (unpressed e) refl refl h;
+  }
 
   pub key-keeps : (fault : Option StoreFault) (e : Editor) (key : Key) → P e → P (after_key d fault e key)
   key-keeps fault e key h =
       each-key d fault e (λ k new. P new) (λ height width. keeps.same e (with_size e height width) refl refl h)
       (λ notice. keeps.same e (with_notice e notice) refl refl h) h
-      (kept.start-keeps P pastes e h, kept.paste-end-keeps d P pressing pastes e h)
+      (kept.start-keeps P pastes e h, kept.paste-end-keeps d P (pressing d P (by-user d P keeps)) pastes e h)
       (λ k small.
-      press-keeps d fault e P k (λ x has. user fault x k has) (λ x has. kept.ended-keeps d P pressing pastes x has)
+      press-keeps d fault e P k (λ x has. user-keeps d P (by-user d P keeps) fault x k has) (λ x has. kept.ended-keeps d P (pressing d P (by-user d P keeps)) pastes x has)
       (λ c. kept.pasted-letter-keeps P pastes d e c h) h)
       key
 

@@ -17,7 +17,9 @@ use Rattle.bx_text.specs.Edits.{Edited}
 use Rattle.bx_ucd.specs.Data.{Data}
 use Rattle.bx_view.specs.Numbers.{place_of, paragraph_number, unit_number}
 use Rattle.bx_view.specs.Places.{IsTextPlace}
-use Rattle.bx_view.specs.TextRows.{cell_of, text_rows}
+use Rattle.bx_paragraph.specs.declared.moves.Visual.TheVariants.{Left}
+use Rattle.bx_paragraph.specs.Slots.{reads_on}
+use Rattle.bx_view.specs.TextRows.{cell_of, row_at, row_of, text_rows}
 use Rattle.bx_view.specs.declared.position.Position.{Position}
 use Rattle.bx_view.proofs.Numbered.{lead-back}
 use Rattle.bx_editor.specs.Asking.{after_answer_letter, after_going, answer_lengthened, gone_to, longest_line, with_answer, without_prompt}
@@ -64,8 +66,9 @@ module _ (d : Data) (e : Editor) (has : HasTextPlace d e) where
   place-told : place_of d e.content.text p u ≡ e.place
   place-told =
       let rows = text_rows d Auto 1 e.content.text in
-      let at : Position = record { column = cell_of 1 rows e.place; paragraph = p; unit = u } in
-      lead-back d Auto 1 e.content.text has.text e.place at has.place (record { column = refl; paragraph = refl; unit = refl })
+      let is_rtl = reads_on Left (row_at rows (row_of rows e.place)).row in
+      let at : Position = record { column = cell_of 1 rows e.place; paragraph = p; unit = u; is_rtl = is_rtl } in
+      lead-back d Auto 1 e.content.text has.text e.place at has.place (record { column = refl; paragraph = refl; unit = refl; direction = refl })
 
   -- an editor with this answer goes nowhere
   pub stays-there : e.answer ≡ told_numbers d e → after_going d e ≡ without_prompt e

@@ -21,9 +21,9 @@ use Rattle.bx_editor.specs.declared.undo_groups.typing.Typing.TheVariants as typ
 use Rattle.bx_editor.specs.Editor.{Editor, at_start, place_after, rows}
 use Rattle.bx_editor.specs.Functions.{HasRows, after_keys}
 use Rattle.bx_editor.specs.Keys.{after_key}
-use Rattle.bx_editor.specs.Region.{bytes_in, region, taken, mark_left}
+use Rattle.bx_editor.specs.Region.{bytes_in, region, mark_left}
 use Rattle.bx_editor.specs.Origin.{asks_replacement, is_queried}
-use Rattle.bx_editor.specs.PasteLaws.{cuts_in}
+use Rattle.bx_editor.specs.PasteLaws.{can_cut, cuts_in}
 use Rattle.bx_editor.specs.Search.{next_or_start, reading, sought}
 use Rattle.bx_editor.specs.Picture.{next_top}
 
@@ -110,20 +110,22 @@ pub record HasPut (d : Data) (e : Editor) (text : List ℕ) (offset : ℕ) (new 
   pub place_is : new.place ≡ place_after d e text offset
   pub mark_is : new.mark ≡ None
 
--- outside a search, a question and a paste, copying the region and putting it back at once leaves the text with the region
--- twice, if there is room, and the cursor at the end of what was put
+-- Outside a search, a question and a paste, where the text is not only looked at, copying the region and putting it back at once leaves
+-- the text with the region twice, if there is room, and the cursor at the end of what was put. A selection stays when it is copied, so what
+-- is put takes its place.
 abbrev pub CopyPutsTwice : Type 0
 CopyPutsTwice =
-    (d : Data) (e : Editor) → e.prompt ≡ prompts.Off → e.search_state ≡ Off → e.pasted ≡ None → IsPart e (region e) → length (twice e (region e)) ≤ largest_text
+    (d : Data) (e : Editor) → e.prompt ≡ prompts.Off → e.search_state ≡ Off → e.pasted ≡ None → e.read_only ≡ false → e.soft ≡ softness.Off
+    → IsPart e (region e) → length (twice e (region e)) ≤ largest_text
     → HasPut d e (twice e (region e)) (e.place + length (bytes_in e (region e))) (after_keys d None e (Copy ∷ Put ∷ []))
 
--- outside a paste, cutting and putting back at once leaves the text unchanged, if the cut leaves the cursor where the cut text
--- began, and the cursor at the end of that text
+-- Outside a paste, where Cut does its work (in an input line it does nothing), cutting a region and putting it back at once leaves the text
+-- unchanged, if the cut leaves the cursor where the cut text began, and the cursor at the end of that text.
 abbrev pub PutRestoresCut : Type 0
 PutRestoresCut =
-    (d : Data) (e : Editor) → e.pasted ≡ None → IsPart e (taken d e) → length e.content.text ≤ largest_text
-    → (after_key d None e Cut).place ≡ (taken d e).0
-    → HasPut d e e.content.text ((taken d e).1) (after_keys d None e (Cut ∷ Put ∷ []))
+    (d : Data) (e : Editor) → e.pasted ≡ None → can_cut e ≡ true → IsPart e (region e) → length e.content.text ≤ largest_text
+    → (after_key d None e Cut).place ≡ (region e).0
+    → HasPut d e e.content.text ((region e).1) (after_keys d None e (Cut ∷ Put ∷ []))
 
 -- Mark twice at one place changes nothing but the message, if the mark was there or nowhere; a mark elsewhere is gone. A search, a
 -- question and a selection end, nothing goes on, and an earlier Quit, a kept column and what was pressed are forgotten.
