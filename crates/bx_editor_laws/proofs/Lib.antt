@@ -81,3 +81,6 @@ pub mod TextsChanged
 pub mod OneCause
 pub mod MessageWords
 pub mod CauseKinds
+pub mod OverwriteAnswer
+pub mod KeyLetters
+pub mod PromptKept

@@ -2,6 +2,7 @@
 #![tactic(auto)]
 
 mod asking_laws;
+mod input_laws;
 mod laws;
 mod line_laws;
 mod pasting_laws;
@@ -18,6 +19,7 @@ pub use asking_laws::{
     prompts_are_shown, questions_change_themselves, tell_shows, tells_what_stands,
     told_numbers_lead_back,
 };
+pub use input_laws::{keys_are_letters, line_keys_keep_prompt, only_answers_overwrite};
 pub use laws::{
     copy_puts_twice, find_back_goes_to_previous, find_goes_to_next, giving_up_goes_back,
     goes_to_both_ends, mark_twice_is_nothing, put_restores_cut, redo_mirrors_undo, top_stays,
