@@ -60,10 +60,10 @@ module _ (test : ℕ → ℕ → Bool) (c letter : ℕ) where
 -- ---- as the name of a character
 
 -- a letter that names nothing, asks for no code and ends nothing
-names_none : ℕ → Bool
+abbrev names_none : ℕ → Bool
 names_none c = not (is_some (named (name_letter c)) || (asks_code (name_letter c) || (name_letter c == 0xA)))
 
-same_name : ℕ → ℕ → Bool
+abbrev same_name : ℕ → ℕ → Bool
 same_name c letter = (name_letter c == name_letter letter) || (names_none c && names_none letter)
 
 module _ (d : Data) (e : Editor) where
@@ -93,10 +93,10 @@ module _ (d : Data) (e : Editor) where
 
 -- ---- as a digit of a code
 
-is_no_digit : ℕ → Bool
+abbrev is_no_digit : ℕ → Bool
 is_no_digit c = not (is_code_letter (code_letter c) || (code_letter c == 0xA))
 
-same_digit : ℕ → ℕ → Bool
+abbrev same_digit : ℕ → ℕ → Bool
 same_digit c letter = (code_letter c == code_letter letter) || (is_no_digit c && is_no_digit letter)
 
 module _ (d : Data) (e : Editor) where

@@ -28,6 +28,7 @@ pub mod WorkLawExamples
 pub mod Chains
 pub mod RunKeys
 pub mod StoredText
+pub mod StoredKeys
 pub mod MirroredRuns
 pub mod OneRun
 pub mod PasteTyped
@@ -72,6 +73,8 @@ pub mod Cancelled
 pub mod MarksTaken
 pub mod ColumnKept
 pub mod InReach
+pub mod ReachKeys
+pub mod StoredNow
 pub mod StoredUnchanged
 mod KeyLawExamples
 mod RefusalLawExamples

@@ -42,7 +42,7 @@ if-false false s is = is
 -- ---- by what is asked
 
 -- its own name means where saves go
-is_home : Editor → Bool
+abbrev is_home : Editor → Bool
 is_home e = e.home && is_name e.name e.answer && not e.read_only
 
 own-key : (e : Editor) (key : Key) → (if is_save key && can_save e then Some (own_saving e e.name) else None) ≢ Some Over

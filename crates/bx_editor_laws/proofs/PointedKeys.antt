@@ -4,7 +4,7 @@ use Rattle.std.proofs.Common.{arith, inl, inr, leb-true, if◌then◌else◌}
 use Rattle.std.specs.Prelude.{◌≢◌, ◌⊎◌, ◌==◌, ◌&&◌, unwrap_or}
 use Rattle.std.proofs.lemmas.Bool.{le-leb}
 use Rattle.std.proofs.lemmas.Bool.Decides.{nat_tests}
-use Rattle.bx_keys.specs.declared.key.Key.TheVariants.{Point}
+use Rattle.bx_keys.specs.declared.key.Key.TheVariants.{Drag, Point}
 use Rattle.bx_ucd.specs.Data.{Data}
 use Rattle.bx_document.specs.Line.{line_of}
 use Rattle.bx_paragraph.proofs.Starts.{side-some}
@@ -33,7 +33,7 @@ use Rattle.bx_editor.specs.Editor.{Editor, cleared, rows, text_height}
 use Rattle.bx_editor.specs.Functions.{HasRows, after_keys}
 use Rattle.bx_editor.specs.Keys.{after_key, as_left}
 use Rattle.bx_editor.specs.Picture.{blank_picture, next_top, picture, text_picture, scrolled, with_cursor}
-use Rattle.bx_editor.specs.Pointing.{clicking, further, part_at, pointed_place, press_extent, pressed_at, pressing, pressing_with, selecting_part}
+use Rattle.bx_editor.specs.Pointing.{after_drag, clicking, further, part_at, pointed_place, press_extent, pressed_at, pressing, pressing_with, selecting_part}
 use Rattle.bx_editor.specs.Region.{aged, is_empty, mark_left, soft_left, unselected}
 use Rattle.bx_editor.specs.Status.{input_column}
 use Rattle.bx_editor_laws.specs.WorkLaws.{IsFullEnd, own_row}
@@ -121,6 +121,28 @@ point-is : (d : Data) (e : Editor) (row column : ℕ) → e.pasted ≡ None → 
 point-is d e row column settled other high first =
     subst (IsPointed d e row column) (sym (first-is d e row column settled other high first)) (pressed-by d e row column e.soft)
 
+pub point-place : (d : Data) (e : Editor) (row column : ℕ) → e.pasted ≡ None → (e.prompt ≡ prompts.Overwrite → ⊥) → row ≤ text_height e.height
+    → IsFirstPress e (Point row column) → (after_key d None e (Point row column)).place ≡ pointed_place d e row column
+point-place d e row column settled other high first = ap (λ x. x.place) (point-is d e row column settled other high first).is
+
+place-by : (d : Data) (e : Editor) (row column place : ℕ) (soft : Soft) → (pressing_with d e row column place soft).place ≡ place
+place-by d e row column place softness.Fresh = refl
+place-by d e row column place softness.Off = refl
+place-by d e row column place softness.Old = refl
+
+-- a drag where nothing is pressed
+pub drag-place : (d : Data) (e : Editor) (row column : ℕ) → e.pasted ≡ None → (e.prompt ≡ prompts.Overwrite → ⊥) → row ≤ text_height e.height
+    → IsFirstPress e (Point row column) → e.pressed ≡ None → (after_key d None e (Drag row column)).place ≡ pointed_place d e row column
+drag-place d e row column settled other high first pressed =
+    let x = free e in
+    let place = pointed_place d e row column in
+    let press = pressed_at d x row column place (press_extent e.clicks row column) in
+    ap (λ n. n.place) (ended-key d None e (Drag row column) settled refl refl refl other)
+    ∙ ap (λ p. (after_drag d x row column p).place) pressed
+    ∙ ap (λ b. (if b then press else record (unselected x) { clicks = None; pressed = None }).place) (le-leb row (text_height e.height) high)
+    ∙ ap (λ extent. (pressed_at d x row column place extent).place) first
+    ∙ place-by d x row column place e.soft
+
 -- ---- the cursor in the picture
 
 seen : (d : Data) (e : Editor) → e.ended ≡ false → input_column d e ≡ None → picture d e e.top ≡ in_text d e e.top
@@ -137,7 +159,7 @@ seen-column d e has on none =
     ap (λ p. p.column + 1) (seen d e on none) ∙ omega (arith, some)
 
 -- no input line is shown
-no-column : (high : Bool) (none : Option ℕ) → none ≡ None → (if high then none else None) ≡ None
+no-column : (high : Bool) (column : Option ℕ) → column ≡ None → (if high then column else None) ≡ None
 no-column true none is = is
 no-column false none is = refl
 

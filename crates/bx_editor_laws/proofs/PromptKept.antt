@@ -57,8 +57,8 @@ searching e new text on question = record { text = text; asked = record { search
 still : (e : Editor) → KeepsPrompt e e
 still e = same e e refl refl refl
 
-then : (e x new : Editor) → KeepsPrompt e x → KeepsPrompt x new → KeepsPrompt e new
-then e x new first second = record {
+next : (e x new : Editor) → KeepsPrompt e x → KeepsPrompt x new → KeepsPrompt e new
+next e x new first second = record {
   text = second.text ∙ first.text;
   asked = record {
     search = λ on. second.asked.search (first.asked.search on);
@@ -71,7 +71,7 @@ either e true p q h k = h
 either e false p q h k = k
 
 other : (e : Editor) (b : Bool) (p q : Editor) → b ≡ false → KeepsPrompt e q → KeepsPrompt e (if b then p else q)
-other e b p q no k = subst (λ t. KeepsPrompt e (if t then p else q)) (sym no) k
+other e b p q not-so k = subst (λ t. KeepsPrompt e (if t then p else q)) (sym not-so) k
 
 -- ---- a character other than a line end
 
@@ -139,16 +139,16 @@ line-letter d prompts.Overwrite search_state e c inside = answer-letter d None p
 line-put : (d : Data) (e : Editor) → KeepsPrompt e (after_line_put d e)
 line-put d e =
     in-line-keeps d (KeepsPrompt e) (record {
-      cleared = λ x h. then e x (cleared x) h (same x (cleared x) refl refl refl);
-      told = λ x h. let new : Editor = record x { message = Some NothingToPut } in then e x new h (same x new refl refl refl);
+      cleared = λ x h. next e x (cleared x) h (same x (cleared x) refl refl refl);
+      told = λ x h. let new : Editor = record x { message = Some NothingToPut } in next e x new h (same x new refl refl refl);
       typed = λ x c inside h.
-          let new = typed_in d x.prompt x.search_state x c in then e x new h (line-letter d x.prompt x.search_state x c (not-true (c == 0xA) inside));
+          let new = typed_in d x.prompt x.search_state x c in next e x new h (line-letter d x.prompt x.search_state x c (not-true (c == 0xA) inside));
     }) e (still e)
 
 -- ---- a character that is typed or pasted
 
 -- what such a key means in an input line; a typed line end ends it
-keeps_line : Typing → Answer → Bool
+abbrev keeps_line : Typing → Answer → Bool
 keeps_line typing (answers.Letter c) = not ((c == 0xA) && is_typed typing)
 keeps_line typing (answers.Erases how) = true
 keeps_line typing (answers.Moves m) = true
@@ -161,7 +161,7 @@ inside-typed true h = absurd (cc h)
 inside-typed false h = refl
 
 with-typing : (e new : Editor) (typing : Typing) → KeepsPrompt e new → KeepsPrompt e (with_typing new typing)
-with-typing e new typing h = then e new (with_typing new typing) h (same new (with_typing new typing) refl refl refl)
+with-typing e new typing h = next e new (with_typing new typing) h (same new (with_typing new typing) refl refl refl)
 
 pasted-by : (d : Data) (c : ℕ) (e new : Editor) (typing : Typing) (end separator : Bool) → (end ≡ false → KeepsPrompt e new)
     → KeepsPrompt e (with_typing (if not (end || separator) then new else e) typing)

@@ -1,6 +1,6 @@
 -- Laws of undo groups, and of the text that was stored. `d`, `e` and `new` are as in Laws.antt.
 use Rattle.std.specs.Prelude.{◌≡◌, ◌≢◌, ℕ, ◌+◌, ◌-◌, ◌==◌, ◌&&◌, not, ◌<◌, ◌≤◌, false, List, [], ◌∷◌, ◌++◌, length, map, replicate, encode_utf8_all}
-use Rattle.std.specs.Prelude.{All, Option, None, is_none, if◌then◌else◌}
+use Rattle.std.specs.Prelude.{All, Option, None, is_none, is_some, if◌then◌else◌}
 use Rattle.bx_common.specs.Characters.{largest_text}
 use Rattle.bx_common.specs.declared.base.Base.{Base}
 use Rattle.bx_keys.specs.declared.key.Key.{Key}
@@ -16,7 +16,7 @@ use Rattle.bx_ucd.specs.Data.{Data}
 use Rattle.bx_editor.specs.declared.questions.answers.Prompt.TheVariants as prompts
 use Rattle.bx_editor.specs.declared.search_state.SearchState.TheVariants.{Off}
 use Rattle.bx_editor.specs.Editor.{Editor, at_start, is_changed_at}
-use Rattle.bx_editor.specs.Keys.{after_key, is_save}
+use Rattle.bx_editor.specs.Keys.{after_key, ends_paste, saving_of}
 use Rattle.bx_editor.specs.Functions.{after_keys}
 use Rattle.bx_editor.specs.Putting.{paste_ended}
 use Rattle.bx_editor_laws.specs.Laws.{after_typing, IsUnmarkedAt}
@@ -109,10 +109,15 @@ WordIsARun =
 
 -- ---- what counts as changed
 
--- the text that was stored last, after a key: the editor's own if the key is a Save that succeeds, with what a paste has brought
--- that is under way, else `text`, the one before
+-- the editor as a key finds it: one that ends a paste ends it first
+abbrev pub saving_editor : Data → Editor → Key → Editor
+saving_editor d e key = if ends_paste key then paste_ended d e else e
+
+-- The text that was stored last, after a key: the editor's own if the key stores it, as `saving_of` tells (a Save, or an answer), and
+-- that succeeds, with what a paste has brought that is under way; else `text`, the one before
 abbrev pub stored_by : Data → List ℕ → Editor → Key → Option StoreFault → List ℕ
-stored_by d text e key fault = if is_save key && is_none fault then (paste_ended d e).content.text else text
+stored_by d text e key fault =
+    if is_some (saving_of (saving_editor d e key) key) && is_none fault then (saving_editor d e key).content.text else text
 
 -- the text that was stored last, while these keys are typed; `text` was stored, or opened, before them
 abbrev pub stored_last : Data → List ℕ → Editor → List (Key × Option StoreFault) → List ℕ
