@@ -87,3 +87,5 @@ pub mod CauseKinds
 pub mod OverwriteAnswer
 pub mod KeyLetters
 pub mod PromptKept
+pub mod InputLawExamples
+pub mod DragTaken

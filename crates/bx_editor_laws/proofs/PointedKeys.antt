@@ -108,7 +108,7 @@ press-is d e row column settled other high =
     ∙ ap (λ b. as_left (Point row column) (if b then press else record (unselected x) { clicks = None; pressed = None }))
     (le-leb row (text_height e.height) high)
 
-first-is : (d : Data) (e : Editor) (row column : ℕ) → e.pasted ≡ None → (e.prompt ≡ prompts.Overwrite → ⊥) → row ≤ text_height e.height
+pub first-is : (d : Data) (e : Editor) (row column : ℕ) → e.pasted ≡ None → (e.prompt ≡ prompts.Overwrite → ⊥) → row ≤ text_height e.height
     → IsFirstPress e (Point row column)
     → after_key d None e (Point row column) ≡ as_left (Point row column) (pressing_with d (free e) row column (pointed_place d e row column) e.soft)
 first-is d e row column settled other high first =

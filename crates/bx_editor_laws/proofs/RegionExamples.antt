@@ -135,7 +135,7 @@ unfolding unicode_segmentation unicode_width digits
 the_place_is_past_the_cluster = refl
 
 pub a_put_empties_the_future : marked (from (codes "ab") (Copy ∷ Insert 0x78 ∷ Undo ∷ Put ∷ Redo ∷ []))
-    ≡ (codes "abab", 2, None, Some messages.NothingToRedo)
+    ≡ (codes "ab\nab", 3, None, Some messages.NothingToRedo)
 unfolding unicode_segmentation unicode_width digits
 a_put_empties_the_future = refl
 

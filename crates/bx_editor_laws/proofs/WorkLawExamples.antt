@@ -8,14 +8,14 @@ use Rattle.unicode_normalization.proofs.Computing.{unicode_normalization}
 use Rattle.unicode_segmentation.proofs.Computing.{unicode_segmentation}
 use Rattle.unicode_width.proofs.Computing.{unicode_width}
 use Rattle.bx_keys.specs.declared.key.Key.{Key}
-use Rattle.bx_keys.specs.declared.key.Key.TheVariants.{Insert, Down, Forward, Find, RowEnd, ErasePoint, FindNext, LineDown, LineUp}
+use Rattle.bx_keys.specs.declared.key.Key.TheVariants.{Insert, Down, Forward, Find, RowEnd, ErasePoint, FindNext, FindPrevious, LineDown, LineUp}
 use Rattle.bx_keys.specs.declared.key.Key.TheVariants.{PageBack, PageOn}
 use Rattle.bx_paragraph.specs.declared.slots.Slot.{Slot}
 use Rattle.bx_paragraph.specs.Slots.{covers, row_slots}
 use Rattle.bx_editor.specs.declared.message.Message.TheVariants.{FromStart}
 use Rattle.bx_editor.specs.Editor.{Editor}
 use Rattle.bx_editor.specs.Functions.{HasRows}
-use Rattle.bx_editor_laws.specs.WorkLaws.{ColumnIsKept, ErasePointLeavesBeginning, FindNextIsFindTwice, LineMovesGoBack, PageMovesGoBack}
+use Rattle.bx_editor_laws.specs.WorkLaws.{ColumnIsKept, ErasePointLeavesBeginning, FindNextIsFindTwice, FindPreviousIsFindBack, LineMovesGoBack, PageMovesGoBack}
 use Rattle.bx_editor_laws.specs.WorkLaws.{IsEntered, KeptMovesGoBack, keeps_column, own_row}
 use Rattle.bx_editor.proofs.Computed.{tables, start, after}
 
@@ -29,7 +29,7 @@ pub the_letter_and_the_rest_stay : ErasePointLeavesBeginning
     → (after behind_a_point (ErasePoint ∷ [])).content.text ≡ 0xd7 ∷ 0x90 ∷ 0xd7 ∷ 0x91 ∷ []
 unfolding unicode_segmentation unicode_width digits
 the_letter_and_the_rest_stay law =
-    (law tables behind_a_point (record { text = (0x5d0 ∷ 0x301 ∷ 0x5d1 ∷ [], (refl, refl)); columns = refl }) refl refl refl refl (1, omega arith, refl)).text_is
+    (law tables behind_a_point (record { text = (0x5d0 ∷ 0x301 ∷ 0x5d1 ∷ [], (refl, refl)); columns = refl }) refl refl refl refl refl refl (1, omega arith, refl)).text_is
 
 -- ---- the next match
 
@@ -42,13 +42,17 @@ at_the_second_b = after at_the_first_b (FindNext ∷ [])
 
 pub the_next_b_is_at_three : FindNextIsFindTwice → (after at_the_first_b (FindNext ∷ [])).place ≡ 3
 unfolding unicode_segmentation unicode_width digits unicode_normalization ucd_case
-the_next_b_is_at_three law = ap (λ (e : Editor). e.place) (law tables at_the_first_b refl (λ e. cc e))
+the_next_b_is_at_three law = ap (λ (e : Editor). e.place) (law tables at_the_first_b refl (λ e. cc e) (λ over. cc over))
 
 pub from_the_last_the_first_is_next : FindNextIsFindTwice
     → let e = after at_the_second_b (FindNext ∷ []) in (e.place ≡ 1) × (e.message ≡ Some FromStart)
 unfolding unicode_segmentation unicode_width digits unicode_normalization ucd_case
 from_the_last_the_first_is_next law =
-    let twice = law tables at_the_second_b refl (λ e. cc e) in (ap (λ (e : Editor). e.place) twice, ap (λ (e : Editor). e.message) twice)
+    let twice = law tables at_the_second_b refl (λ e. cc e) (λ over. cc over) in (ap (λ (e : Editor). e.place) twice, ap (λ (e : Editor). e.message) twice)
+
+pub from_the_second_b_to_the_first : FindPreviousIsFindBack → (after at_the_second_b (FindPrevious ∷ [])).place ≡ 1
+unfolding unicode_segmentation unicode_width digits unicode_normalization ucd_case
+from_the_second_b_to_the_first law = ap (λ (e : Editor). e.place) (law tables at_the_second_b refl (λ e. cc e) (λ over. cc over))
 
 -- ---- moves from row to row and back
 

@@ -1,14 +1,14 @@
 -- Laws of pointing at the picture, whose first row is the one of the offset `e.top`. Rows and columns of the picture count from 1, the
 -- numbers of the text's rows (`k`) from 0. `d`, `e` and `new` are as in Laws.antt.
-use Rattle.std.specs.Prelude.{◌≡◌, ◌≢◌, ◌⊎◌, ℕ, ◌+◌, ◌<◌, ◌≤◌, true, false, List, length, replicate, Some, None}
+use Rattle.std.specs.Prelude.{◌≡◌, ◌≢◌, ◌⊎◌, ℕ, ◌+◌, ◌<◌, ◌≤◌, nat_le, true, false, List, [], ◌∷◌, length, replicate, Some, None, if◌then◌else◌}
 use Rattle.bx_keys.specs.declared.key.Key.{Key}
-use Rattle.bx_keys.specs.declared.key.Key.TheVariants.{Point}
+use Rattle.bx_keys.specs.declared.key.Key.TheVariants.{Drag, Point}
 use Rattle.bx_ucd.specs.Data.{Data}
 use Rattle.bx_document.specs.Drawing.{IsAmong}
 use Rattle.bx_document.specs.Line.{line_of}
 use Rattle.bx_view.specs.Places.{IsTextPlace}
 use Rattle.bx_view.specs.TextRows.{row_at, row_of}
-use Rattle.bx_view.specs.Words.{stretch_at}
+use Rattle.bx_view.specs.Words.{stretch_at, unit_at}
 use Rattle.bx_view_laws.specs.Pointed.{ShowsUnit, picture_row}
 use Rattle.bx_editor.specs.declared.cursor.Soft.TheVariants as softness
 use Rattle.bx_editor.specs.declared.questions.answers.Prompt.TheVariants as prompts
@@ -17,7 +17,7 @@ use Rattle.bx_editor.specs.Functions.{HasRows, after_keys}
 use Rattle.bx_editor.specs.Keys.{after_key}
 use Rattle.bx_editor.specs.Picture.{picture, scrolled}
 use Rattle.bx_editor.specs.Pointing.{pointed_place}
-use Rattle.bx_editor.specs.Region.{is_empty, mark_left}
+use Rattle.bx_editor.specs.Region.{is_empty, mark_left, region}
 use Rattle.bx_editor.specs.Status.{input_column}
 use Rattle.bx_editor_laws.specs.SelectionLaws.{IsFirstPress}
 use Rattle.bx_editor_laws.specs.WorkLaws.{IsFullEnd, own_row}
@@ -96,3 +96,29 @@ abbrev pub ThreePresses : Type 0
 ThreePresses =
     (d : Data) (e : Editor) (row column : ℕ) → e.pasted ≡ None → e.prompt ≢ prompts.Overwrite → e.clicks ≡ None → e.soft ≢ softness.Fresh
     → row ≤ text_height e.height → PressesTake d e row column (pointed_place d e row column)
+
+-- ---- dragging
+
+-- the unit that a cell shows
+abbrev pub unit_of : Data → Editor → ℕ → ℕ → ℕ × ℕ
+unit_of d e row column = unit_at d e.content.text (pointed_place d e row column)
+
+-- from the start of the unit that begins first to the end of the other
+abbrev pub both_units : ℕ × ℕ → ℕ × ℕ → ℕ × ℕ
+both_units one other = if nat_le one.0 other.0 then (one.0, other.1) else (other.0, one.1)
+
+-- Where nothing was pressed before and no selection is fresh, dragging from a cell to a cell of another unit selects both units, and so does
+-- dragging from that to the first; dragging back then selects the first unit alone.
+pub record DragTakes (d : Data) (e : Editor) (row column to_row to_column : ℕ) : Type 0 where
+  pub on : region (after_keys d None e (Point row column ∷ Drag to_row to_column ∷ []))
+      ≡ both_units (unit_of d e row column) (unit_of d e to_row to_column)
+  pub back : region (after_keys d None e (Point to_row to_column ∷ Drag row column ∷ []))
+      ≡ both_units (unit_of d e row column) (unit_of d e to_row to_column)
+  pub alone : region (after_keys d None e (Point row column ∷ Drag to_row to_column ∷ Drag row column ∷ [])) ≡ unit_of d e row column
+
+-- so it is outside a paste and the question whether to overwrite, in rows of the picture that show text, where the top stays
+abbrev pub DragsTakeBoth : Type 0
+DragsTakeBoth =
+    (d : Data) (e : Editor) (row column to_row to_column : ℕ) → e.pasted ≡ None → e.prompt ≢ prompts.Overwrite → e.clicks ≡ None
+    → e.soft ≢ softness.Fresh → row ≤ text_height e.height → to_row ≤ text_height e.height
+    → pointed_place d e row column ≢ pointed_place d e to_row to_column → DragTakes d e row column to_row to_column

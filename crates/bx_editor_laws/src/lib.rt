@@ -29,7 +29,7 @@ pub use line_laws::new_line_puts_separator;
 pub use pasting_laws::{
     keys_end_pastes, paste_comes_back, paste_is_typing, pastes_are_alone, pastes_end_by_keys,
 };
-pub use pointing_laws::{point_stays, point_takes_units, three_presses_take};
+pub use pointing_laws::{drags_take_both, point_stays, point_takes_units, three_presses_take};
 pub use refusal_laws::{
     kinds_tell_causes, opening_has_one_cause, refusable_keys_change_texts,
     unrefused_keys_keep_texts, words_tell_causes, words_tell_messages,

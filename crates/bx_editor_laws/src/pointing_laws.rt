@@ -1,6 +1,6 @@
 //! Laws of pointing at the picture. The functions are empty: their contracts are the laws.
 
-ghost use Rattle.bx_editor_laws.specs.PointingLaws.{PointStays, PointTakesUnits, ThreePresses};
+ghost use Rattle.bx_editor_laws.specs.PointingLaws.{DragsTakeBoth, PointStays, PointTakesUnits, ThreePresses};
 
 /// A first press at the cursor's cell in the text leaves the place, but at the end of a paragraph whose last row is full. A unit has that cell
 /// too, and is taken.
@@ -17,4 +17,10 @@ pub fn point_takes_units()
 /// selects the word there, the third the paragraph, and the fourth is as the first, where the top stayed.
 pub fn three_presses_take()
     ensures { ThreePresses }
+{}
+
+/// Dragging from a cell to a cell of another unit selects both units, and so does dragging from that to the first; dragging back then selects
+/// the first unit alone. So it is where nothing was pressed before, no selection is fresh, and the top stays.
+pub fn drags_take_both()
+    ensures { DragsTakeBoth }
 {}
