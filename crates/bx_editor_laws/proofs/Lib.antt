@@ -89,3 +89,4 @@ pub mod KeyLetters
 pub mod PromptKept
 pub mod InputLawExamples
 pub mod DragTaken
+pub mod ViewKept

@@ -11,6 +11,7 @@ mod refusal_laws;
 mod replace_laws;
 mod run_laws;
 mod selection_laws;
+mod view_laws;
 mod word_laws;
 mod work_laws;
 
@@ -46,6 +47,7 @@ pub use selection_laws::{
     cancel_unmarks, move_takes_selection_off, seeking_takes_selection_off, selection_comes_back,
     selection_gives_way, selection_is_removed,
 };
+pub use view_laws::view_keeps_text;
 pub use word_laws::word_keys_erase;
 pub use work_laws::{
     column_is_kept, erase_point_leaves_beginning, find_next_is_find_twice,
