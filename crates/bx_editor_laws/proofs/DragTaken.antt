@@ -34,8 +34,11 @@ unit-order d text place =
     let order = stop-order (body_at d text number) (place - start) in
     omega (arith, order)
 
+abbrev pair : ℕ → ℕ → ℕ × ℕ
+pair a b = (a, b)
+
 swapped-by : (one other : ℕ × ℕ) → (one.0 ≡ other.0 → ⊥) → (ahead behind : Bool) → nat_le one.0 other.0 ≡ ahead → nat_le other.0 one.0 ≡ behind
-    → (if behind then (other.0, one.1) else (one.0, other.1)) ≡ (if ahead then (one.0, other.1) else (other.0, one.1))
+    → (if behind then pair other.0 one.1 else pair one.0 other.1) ≡ (if ahead then pair one.0 other.1 else pair other.0 one.1)
 swapped-by one other apart true true a b = absurd (apart (omega (arith, leb-true one.0 other.0 a, leb-true other.0 one.0 b)))
 swapped-by one other apart true false a b = refl
 swapped-by one other apart false true a b = refl

@@ -48,7 +48,7 @@ use Rattle.std.specs.Prelude.{◌&&◌, ◌||◌, ◌==◌, not, min, nat_le, na
 use Rattle.bx_keys.specs.declared.key.Key.TheVariants.{Insert, Erase, Delete, Cut, Put, Replace, EraseWord, DeleteWord, ErasePoint, NewLine, Save}
 use Rattle.bx_text.specs.Edits.{Edit, fits, fits_both, splice}
 use Rattle.bx_document.specs.Swapped.{behind_character}
-use Rattle.bx_editor.specs.undo_groups.Groups.{after_removal, goes_on, goes_on_removing, kind_of}
+use Rattle.bx_editor.specs.undo_groups.Groups.{after_insertion, after_removal, goes_on, goes_on_removing, kind_of}
 use Rattle.bx_editor.specs.declared.undo_groups.typing.Kind.{Kind}
 use Rattle.bx_editor.specs.declared.undo_groups.typing.Kind.TheVariants as kinds
 use Rattle.bx_editor.specs.declared.undo_groups.typing.Removal.{Removal}
@@ -59,7 +59,7 @@ use Rattle.bx_editor.specs.declared.clicks.Extent.{Extent}
 use Rattle.bx_editor.specs.declared.clicks.Extent.TheVariants as extents
 use Rattle.bx_editor.specs.declared.clicks.Pressed.{Pressed}
 use Rattle.bx_editor.specs.declared.answer.Answer.TheVariants.{Letter, Erases, Moves, PutsIn, Passes, GoesBack, Next, Previous, Replaces, Scrolls, Stays, Ends}
-use Rattle.bx_editor.specs.Editor.{Editor, after_redo, after_step, after_undo, by_group, cleared, group_length, stored_behind, text_height}
+use Rattle.bx_editor.specs.Editor.{Editor, after_redo, after_step, after_undo, by_group, cleared, group_length, rows, stored_behind, text_height}
 use Rattle.bx_editor.specs.Editor.{with_exchange, with_insertion, with_removal, with_typing}
 use Rattle.bx_editor.specs.Effects.{Effect, Types, BeginsLine, Puts, Removes, RemovesWord, Steps, StepsGroup, Goes, GoesByRows, GoesToRowEnd, Clicks, Drags}
 use Rattle.bx_editor.specs.Effects.{Wheels, Marks, Selects, SelectsAll, Unmarks, Copies, Cuts, Seeks, SeeksNext, SeeksPrevious, Saves, Quits, Turns, Helps}
@@ -428,7 +428,8 @@ module _ (n : ℕ) (d : Data) where
 
   with-one : (e : Editor) (c : ℕ) → InPast e → InPast (with_character d e c)
   with-one e c h =
-      either InPast (fits e.content.text e.place e.place (encode_utf8 c)) (with_insertion d e (encode_utf8 c) false)
+      either InPast (fits e.content.text e.place e.place (encode_utf8 c))
+      (with_typing (with_insertion d e (encode_utf8 c) false) (after_insertion (kind_of (d.class c))))
       (record e { message = Some messages.TextFull }) (insertion e (encode_utf8 c) false h) h
 
   coding : (e : Editor) (code : Option ℕ) → InPast e → InPast (after_code d e code)

@@ -57,6 +57,14 @@ b_stands_at_one law =
 abbrev at_b : Editor
 at_b = showing (codes "abcb") (codes "b") (codes "XY")
 
+b_place : at_b.place ≡ 1
+unfolding unicode_segmentation unicode_width digits
+b_place = refl
+
+b_at : place_at (rows tables at_b) at_b.at ≡ 1
+unfolding unicode_segmentation unicode_width digits
+b_at = refl
+
 b_is_shown : IsShowing tables at_b
 unfolding unicode_segmentation unicode_width digits
 b_is_shown = record {
@@ -66,7 +74,7 @@ b_is_shown = record {
   settled = refl;
   writes = refl;
   shown = refl;
-  stands = record { purpose_is = refl; here = ((omega arith, λ inside high. absurd (omega (arith, high))), refl); place_is = refl };
+  stands = record { purpose_is = refl; here = ((omega arith, λ inside high. absurd (omega (arith, high))), refl); place_is = b_place ∙ sym b_at };
 }
 
 pub enter_puts_xy_in : EnterReplaces → let e = after at_b (enter ∷ []) in (e.content.text ≡ codes "aXYcb") × (e.count ≡ 1)

@@ -186,13 +186,13 @@ pub once_it_is_lost_nothing_leads_to_it : (told [] (letters (codes "ab") ++ Save
 unfolding unicode_segmentation unicode_width digits
 once_it_is_lost_nothing_leads_to_it = refl
 
-abbrev with_a_failed_save : StoreFault → List (Key × Option StoreFault)
-with_a_failed_save fault = (Insert 0x78, None) ∷ (Save, Some fault) ∷ (UndoRun, None) ∷ []
+-- a save that fails, and no other program wrote the file
+abbrev with_a_failed_save : List (Key × Option StoreFault)
+with_a_failed_save = (Insert 0x78, None) ∷ (Save, Some (record { cause = None })) ∷ (UndoRun, None) ∷ []
 
-pub a_failed_save_stores_nothing : (fault : StoreFault)
-    → (after_typing tables (start (codes "ab") 5 40) (with_a_failed_save fault)).changed ≡ false
+pub a_failed_save_stores_nothing : (after_typing tables (start (codes "ab") 5 40) with_a_failed_save).changed ≡ false
 unfolding unicode_segmentation unicode_width digits
-a_failed_save_stores_nothing fault = refl
+a_failed_save_stores_nothing = refl
 
 -- ---- from the laws
 
@@ -247,7 +247,7 @@ pub unchanged_at_the_saved_text : UnchangedIsStored
 unfolding unicode_segmentation unicode_width digits
 unchanged_at_the_saved_text law = law tables [] 5 40 Auto (typed (saved_in_the_middle ++ UndoRun ∷ UndoRun ∷ [])) refl
 
-pub unchanged_at_the_opened_text : UnchangedIsStored → (fault : StoreFault)
-    → (after_typing tables (start (codes "ab") 5 40) (with_a_failed_save fault)).content.text ≡ codes "ab"
+pub unchanged_at_the_opened_text : UnchangedIsStored
+    → (after_typing tables (start (codes "ab") 5 40) with_a_failed_save).content.text ≡ codes "ab"
 unfolding unicode_segmentation unicode_width digits
-unchanged_at_the_opened_text law fault = law tables (codes "ab") 5 40 Auto (with_a_failed_save fault) refl
+unchanged_at_the_opened_text law = law tables (codes "ab") 5 40 Auto with_a_failed_save refl

@@ -138,7 +138,11 @@ pub such_a_copy_holds_nothing : (from (codes "abc") (Forward ∷ Mark ∷ findin
 unfolding unicode_segmentation unicode_width digits unicode_normalization ucd_case
 such_a_copy_holds_nothing = refl
 
-pub an_arrow_moves_in_the_query : (let e = from (codes "abc") (finding (codes "b") ++ (Left ∷ [])) in (e.place, e.input_cursor)) ≡ (1, 0)
+-- the place, and the one in the query
+abbrev places_of : Editor → ℕ × ℕ
+places_of e = (e.place, e.input_cursor)
+
+pub an_arrow_moves_in_the_query : places_of (from (codes "abc") (finding (codes "b") ++ (Left ∷ []))) ≡ (1, 0)
 unfolding unicode_segmentation unicode_width digits unicode_normalization ucd_case
 an_arrow_moves_in_the_query = refl
 

@@ -23,6 +23,7 @@ use Rattle.bx_editor.specs.Keys.{overwrites, saving_by, saving_of}
 use Rattle.bx_editor.specs.Putting.{is_paste, paste_ended}
 use Rattle.bx_editor.specs.Saving.{Saving, after_naming, after_save, asking_name, can_save, confirms, is_nameless, longest_name, own_saving, saving_over}
 use Rattle.bx_editor.specs.Saving.{saving_under, takes_name, with_answered_name, without_answer}
+use Rattle.bx_editor.specs.Search.{without_search}
 use Rattle.bx_editor_laws.specs.RunLaws.{saving_editor}
 use Rattle.bx_editor_laws.specs.StoredLaws.{stores}
 use Rattle.bx_editor_laws.proofs.PasteEnded.{ends-first, over}
@@ -132,15 +133,15 @@ module _ (d : Data) (x : Editor) where
   save-by : (prompt : Prompt) (search_state : SearchState) → is_some (saving_by x prompt Save answers.Ends) ≡ true
       → IsStored (after_any d None (before x) prompt search_state e Save)
   save-by prompts.Off Off is = pressed d (before x) e e.read_only (at-some (can_save x) (own_saving x x.name) is)
-  save-by prompts.Off Begun is = pressed d (before x) e e.read_only (at-some (can_save x) (own_saving x x.name) is)
-  save-by prompts.Off Typed is = pressed d (before x) e e.read_only (at-some (can_save x) (own_saving x x.name) is)
-  save-by prompts.Off WithBegun is = pressed d (before x) e e.read_only (at-some (can_save x) (own_saving x x.name) is)
-  save-by prompts.Off WithTyped is = pressed d (before x) e e.read_only (at-some (can_save x) (own_saving x x.name) is)
-  save-by prompts.Off Replacing is = pressed d (before x) e e.read_only (at-some (can_save x) (own_saving x x.name) is)
-  save-by prompts.Line search_state is = pressed d (before x) e e.read_only (at-some (can_save x) (own_saving x x.name) is)
-  save-by prompts.Name search_state is = pressed d (before x) e e.read_only (at-some (can_save x) (own_saving x x.name) is)
-  save-by prompts.Code search_state is = pressed d (before x) e e.read_only (at-some (can_save x) (own_saving x x.name) is)
-  save-by prompts.File search_state is = pressed d (before x) e e.read_only (at-some (can_save x) (own_saving x x.name) is)
+  save-by prompts.Off Begun is = pressed d (before x) (without_search e) e.read_only (at-some (can_save x) (own_saving x x.name) is)
+  save-by prompts.Off Typed is = pressed d (before x) (without_search e) e.read_only (at-some (can_save x) (own_saving x x.name) is)
+  save-by prompts.Off WithBegun is = pressed d (before x) (without_search e) e.read_only (at-some (can_save x) (own_saving x x.name) is)
+  save-by prompts.Off WithTyped is = pressed d (before x) (without_search e) e.read_only (at-some (can_save x) (own_saving x x.name) is)
+  save-by prompts.Off Replacing is = pressed d (before x) (without_search e) e.read_only (at-some (can_save x) (own_saving x x.name) is)
+  save-by prompts.Line search_state is = pressed d (before x) (without_prompt e) e.read_only (at-some (can_save x) (own_saving x x.name) is)
+  save-by prompts.Name search_state is = pressed d (before x) (without_prompt e) e.read_only (at-some (can_save x) (own_saving x x.name) is)
+  save-by prompts.Code search_state is = pressed d (before x) (without_prompt e) e.read_only (at-some (can_save x) (own_saving x x.name) is)
+  save-by prompts.File search_state is = pressed d (before x) (without_prompt e) e.read_only (at-some (can_save x) (own_saving x x.name) is)
   save-by prompts.Overwrite search_state is = absurd (cc is)
 
   -- a character that answers

@@ -49,6 +49,7 @@ use Rattle.bx_editor.specs.RowMoves.{after_wheel, carried, shows_place, wheel_to
 use Rattle.bx_editor.specs.Saving.{Saving, after_deciding, after_naming, after_save, after_saving, asked_over, asking_name, asking_over, can_save, confirms, is_changed}
 use Rattle.bx_editor.specs.Saving.{is_nameless, longest_name, own_saving, saving_over, saving_under, takes_name, with_answered_name, without_answer}
 use Rattle.bx_editor.specs.Search.{after_beginning, next_or_start, search_back, search_from, sought, sought_alone, without_search}
+use Rattle.bx_editor.specs.undo_groups.Groups.{after_insertion, kind_of}
 use Rattle.bx_editor.specs.questions.Answers.{asked, is_line_letter}
 use Rattle.bx_editor.specs.questions.KeyLetters.{code_letter, name_letter}
 use Rattle.bx_editor.specs.questions.Names.{asks_code, closing, coded, is_code_letter, named}
@@ -189,10 +190,10 @@ module _ (s : List ℕ) (d : Data) where
       → Has s (by d fault was e one)
   asking-keeps fault was e (Wheels way) h is quiet = wheel was e way h
   asking-keeps fault was e (Seeks purpose) h is quiet = h
-  asking-keeps fault was e SeeksNext h is no =
+  asking-keeps fault was e SeeksNext h is quiet =
       let free = unselected e in
       either (length (sought d free) == 0) s (after_beginning purposes.Find free) (search_from d (next_or_start d free) (sought_alone free)) h h
-  asking-keeps fault was e SeeksPrevious h is no =
+  asking-keeps fault was e SeeksPrevious h is quiet =
       let free = unselected e in
       either (length (sought d free) == 0) s (after_beginning purposes.Find free) (search_back d (sought_alone free)) h h
   asking-keeps fault was e Saves h is quiet = absurd (cc quiet)
@@ -283,7 +284,8 @@ module _ (s : List ℕ) (d : Data) where
 
   with-one : (e : Editor) (c : ℕ) → Has s e → Has s (with_character d e c)
   with-one e c h =
-      either (fits e.content.text e.place e.place (encode_utf8 c)) s (with_insertion d e (encode_utf8 c) false) (record e { message = Some messages.TextFull })
+      either (fits e.content.text e.place e.place (encode_utf8 c)) s
+      (with_typing (with_insertion d e (encode_utf8 c) false) (after_insertion (kind_of (d.class c)))) (record e { message = Some messages.TextFull })
       (insertion s d e (encode_utf8 c) false h) h
 
   coding : (e : Editor) (code : Option ℕ) → Has s e → Has s (after_code d e code)
