@@ -35,8 +35,12 @@ use Rattle.bx_editor.specs.Asking.{after_named, after_shorter_answer, gone_to, l
 use Rattle.bx_editor.specs.Asking.{without_prompt, after_wrapping, spans_lines, with_wrap}
 use Rattle.bx_editor_laws.specs.AskingLaws.{IsShown, PromptsAreShown}
 use Rattle.bx_editor.specs.Editor.{Editor, at_start, cleared, with_exchange, with_insertion, with_typing}
-use Rattle.bx_editor.specs.Effects.{Effect, AsksLine, AsksName, Before, before, by}
-use Rattle.bx_editor.specs.Keys.{Answer, Letter, Shortens, GoesBack, Stays, after_any, after_key, after_searching, answer_of, answered_question, effect_of}
+use Rattle.bx_editor.specs.Effects.{Effect, AsksLine, AsksName, by}
+use Rattle.bx_editor.specs.Before.{Before, before}
+use Rattle.bx_editor.specs.Keys.{Shortens, after_any, after_key, after_searching, answered_question, effect_of}
+use Rattle.bx_editor.specs.declared.answer.Answer.{Answer}
+use Rattle.bx_editor.specs.declared.answer.Answer.TheVariants.{Letter, GoesBack, Stays}
+use Rattle.bx_editor.specs.Answering.{answer_of}
 use Rattle.bx_editor_laws.specs.Laws.{after_typing}
 use Rattle.bx_editor.specs.Putting.{paste_ended, is_paste}
 use Rattle.bx_editor.specs.Region.{is_empty, region}

@@ -1,6 +1,6 @@
 -- Worked examples, each from a law alone: questions, wrapped regions, and what is told.
 use Rattle.std.proofs.Common.{◌≡◌, ℕ, List, [], ◌∷◌, ◌++◌, map, refl, ap, inl, arith}
-use Rattle.std.specs.Prelude.{codes, All, Option, None}
+use Rattle.std.specs.Prelude.{codes, All, Option, Some, None}
 use Rattle.std.specs.Fmt.{digits}
 use Rattle.std.specs.Str.{chars}
 use Rattle.unicode_segmentation.proofs.Computing.{unicode_segmentation}
@@ -12,12 +12,11 @@ use Rattle.bx_levels.specs.resolve.Laws.{level_at}
 use Rattle.bx_rows.specs.RowPicture.{letter_glyphs}
 use Rattle.bx_text.specs.Changes.{IsRange}
 use Rattle.bx_view.specs.Numbers.{body_at}
-use Rattle.bx_document.specs.Drawing.{typed_glyphs}
 use Rattle.bx_store.specs.declared.store.StoreFault.{StoreFault}
 use Rattle.bx_editor_laws.specs.AskingLaws.{AnswerIsARun, CodePutsIn, IsAbove, IsShown, PromptsAreShown, IsolatesRaise, LetterIsolates, LetterPutsIn}
 use Rattle.bx_editor_laws.specs.AskingLaws.{LetterWraps, QuestionsChangeThemselves, TellShows, TellsWhatStands, ToldNumbersLeadBack}
 use Rattle.bx_editor.specs.Editor.{Editor}
-use Rattle.bx_editor.specs.Status.{status_text, told_at_place}
+use Rattle.bx_editor.specs.Status.{row_text, status_text, told_at_place, typed_glyphs}
 use Rattle.bx_editor.proofs.Computed.{tables, start, after, letters}
 
 abbrev typed : List Key → List (Key × Option StoreFault)
@@ -42,7 +41,7 @@ digits_go_nowhere law =
 pub two_three_is_here : ToldNumbersLeadBack → (after at_the_end (GoTo ∷ (letters (codes "2:3") ++ NewLine ∷ []))).place ≡ 5
 unfolding unicode_segmentation unicode_width digits
 two_three_is_here law =
-    ((law tables at_the_end (record { text = (codes "ab\ncde", (refl, refl)); size = omega arith; place = (5, omega arith, refl) })).typed refl NewLine refl).0.place_is
+    ((law tables at_the_end (record { text = (codes "ab\ncde", (refl, refl)); size = omega arith; place = (5, omega arith, refl) })).typed refl (λ over. cc over) NewLine refl).0.place_is
 
 -- ---- what is put in
 
@@ -61,13 +60,13 @@ a_code_is_taken_back law =
 -- l names a left-to-right mark
 pub a_mark_is_put_in : LetterPutsIn → (after between (Name ∷ Insert 0x6C ∷ [])).content.text ≡ codes "a" ++ 0xE2 ∷ 0x80 ∷ 0x8E ∷ codes "b"
 unfolding unicode_segmentation unicode_width digits
-a_mark_is_put_in law = (law tables between 0x6C 0x200E refl refl (inl refl) (omega arith)).text_is
+a_mark_is_put_in law = (law tables between 0x6C 0x200E (record { settled = refl; undecided = (λ over. cc over); writes = refl }) refl (inl refl) (omega arith)).text_is
 
 -- 5d0 is alef's code
 pub alef_is_put_in : CodePutsIn
     → (after between (Name ∷ Insert 0x2B ∷ (letters (codes "5d0") ++ NewLine ∷ []))).content.text ≡ codes "a" ++ 0xD7 ∷ 0x90 ∷ codes "b"
 unfolding unicode_segmentation unicode_width digits
-alef_is_put_in law = (law tables between 0x2B (codes "5d0") 0x5D0 NewLine refl refl refl (omega arith) refl (omega arith)).text_is
+alef_is_put_in law = (law tables between 0x2B (codes "5d0") 0x5D0 NewLine (record { settled = refl; undecided = (λ over. cc over); writes = refl }) refl refl (omega arith) refl (omega arith)).text_is
 
 -- b is marked in abc
 abbrev b_marked : Editor
@@ -77,7 +76,7 @@ b_marked = after (start (codes "abc") 4 40) (Forward ∷ Mark ∷ Forward ∷ []
 pub b_is_isolated : LetterWraps
     → (after b_marked (Name ∷ Insert 0x69 ∷ [])).content.text ≡ codes "a" ++ 0xE2 ∷ 0x81 ∷ 0xA6 ∷ 0x62 ∷ 0xE2 ∷ 0x81 ∷ 0xA9 ∷ codes "c"
 unfolding unicode_segmentation unicode_width digits
-b_is_isolated law = ((law tables b_marked 0x69 0x2066 0x2069 refl refl refl (record { some = omega arith; inside = omega arith })).fits refl (omega arith)).text_is
+b_is_isolated law = ((law tables b_marked 0x69 0x2066 0x2069 (record { settled = refl; undecided = (λ over. cc over); writes = refl }) refl refl (record { some = omega arith; inside = omega arith })).fits refl (omega arith)).text_is
 
 -- in its paragraph
 pub b_stands_in_an_isolate : LetterIsolates
@@ -91,7 +90,7 @@ b_stands_in_an_isolate law =
       in_order = omega arith;
     } in
     let isolated = law tables b_marked 0x69 0x2066 0x2069 (record {
-      settled = refl;
+      can = record { settled = refl; undecided = (λ over. cc over); writes = refl };
       opener_is = refl;
       closer_is = refl;
       begins = refl;
@@ -111,8 +110,11 @@ b_is_above law = law tables Auto (0x61 ∷ []) (0x62 ∷ []) (0x2069 ∷ 0x63 �
 -- ---- a prompt
 
 -- a digit that no ASCII has
+abbrev a_digit_typed : Editor
+a_digit_typed = after (start (codes "ab") 4 40) (GoTo ∷ Insert 0x661 ∷ [])
+
 pub an_arabic_digit_is_shown : PromptsAreShown
-    → All IsShown (letter_glyphs (codes " line: ") ++ typed_glyphs (0xD9 ∷ 0xA1 ∷ []))
+    → All IsShown (letter_glyphs (codes " line: ") ++ typed_glyphs tables a_digit_typed (row_text tables a_digit_typed) (Some (0xD9 ∷ 0xA1 ∷ [])))
 unfolding unicode_segmentation unicode_width digits
 an_arabic_digit_is_shown law = (law tables (codes "ab") 4 40 Auto (typed (GoTo ∷ Insert 0x661 ∷ []))).glyphs (λ e. cc e)
 
@@ -130,4 +132,4 @@ alef_is_told law =
 
 pub it_is_shown : TellShows → status_text tables (after at_alef (Tell ∷ [])) ≡ codes "- 1:1 U+05D0 R U+0301 NSM level 1"
 unfolding unicode_segmentation unicode_width digits
-it_is_shown law = (law tables at_alef refl).0
+it_is_shown law = (law tables at_alef refl (λ over. cc over)).0

@@ -6,7 +6,7 @@ use Rattle.std.specs.declared.io.ErrorKind.TheVariants as kinds
 use Rattle.bx_store.specs.Stores.{cause_of_kind}
 use Rattle.bx_store.specs.declared.cause.SaveCause.{SaveCause}
 use Rattle.bx_store.specs.declared.cause.SaveCause.TheVariants.{NoSpace, NotPermitted, FolderGone, ReadOnly, TooLarge, OutOfMemory, Changed, NotPlain}
-use Rattle.bx_store.specs.declared.cause.SaveCause.TheVariants.{CutOff, Other}
+use Rattle.bx_store.specs.declared.cause.SaveCause.TheVariants.{CutOff, Exists, Other}
 use Rattle.bx_editor_laws.specs.RefusalLaws.{KindsTellCauses, as_seen, is_of_host}
 
 -- ---- which causes they have
@@ -20,6 +20,7 @@ of-kind kinds.NotADirectory = refl
 of-kind kinds.ReadOnlyFilesystem = refl
 of-kind kinds.FileTooLarge = refl
 of-kind kinds.OutOfMemory = refl
+of-kind kinds.AlreadyExists = refl
 of-kind kind = refl
 
 some-kind : (cause : SaveCause) → is_of_host cause ≡ false → (kind : ErrorKind) × (cause_of_kind kind ≡ cause)
@@ -32,6 +33,7 @@ some-kind OutOfMemory is = (kinds.OutOfMemory, refl)
 some-kind Changed is = absurd (cc is)
 some-kind NotPlain is = absurd (cc is)
 some-kind CutOff is = absurd (cc is)
+some-kind Exists is = (kinds.AlreadyExists, refl)
 some-kind Other is = (kinds.Other, refl)
 
 -- ---- which have one cause
@@ -44,6 +46,7 @@ seen_by FolderGone = kinds.NotFound
 seen_by ReadOnly = kinds.ReadOnlyFilesystem
 seen_by TooLarge = kinds.FileTooLarge
 seen_by OutOfMemory = kinds.OutOfMemory
+seen_by Exists = kinds.AlreadyExists
 seen_by _ = kinds.Other
 
 back : (kind : ErrorKind) → cause_of_kind kind ≢ Other → seen_by (cause_of_kind kind) ≡ as_seen kind
@@ -55,6 +58,7 @@ back kinds.NotADirectory known = refl
 back kinds.ReadOnlyFilesystem known = refl
 back kinds.FileTooLarge known = refl
 back kinds.OutOfMemory known = refl
+back kinds.AlreadyExists known = refl
 back kind known = absurd (known refl)
 
 by-seen : (kind : ErrorKind) → cause_of_kind (as_seen kind) ≡ cause_of_kind kind

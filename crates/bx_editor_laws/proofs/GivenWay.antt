@@ -1,37 +1,35 @@
 -- A selection gives way.
 use Rattle.std.proofs.Common.{◌≡◌, ℕ, ◌+◌, ◌-◌, ◌≤◌, ◌<◌, Bool, true, false, List, [], ◌∷◌, ◌++◌, length, take, drop, refl, sym, ap, ap₂, subst, ◌∙◌}
 use Rattle.std.proofs.Common.{arith, if◌then◌else◌, append-nil, length-append, ne_eqb}
-use Rattle.std.specs.Prelude.{◌≢◌, ◌==◌, ◌&&◌, not, nat_le, encode_utf8, Some, None}
+use Rattle.std.specs.Prelude.{◌≢◌, ◌==◌, ◌&&◌, not, nat_le, encode_utf8, replicate, Some, None}
+use Rattle.std.proofs.lemmas.Bool.{eqb-true}
 use Rattle.std.proofs.lemmas.Bool.Decides.{nat_tests}
 use Rattle.std.proofs.lemmas.List.{length-drop, length-take}
 use Rattle.bx_common.specs.Characters.{largest_text}
 use Rattle.bx_keys.specs.declared.key.Key.{Key}
-use Rattle.bx_keys.specs.declared.key.Key.TheVariants.{Insert, Erase, Delete, Back, Forward, Up, Down, Right, Left, RowHome, RowEnd, PageUp, PageDown, Save}
-use Rattle.bx_keys.specs.declared.key.Key.TheVariants.{Quit, Undo, Redo, Repaint, Direction, Size, Mark, Copy, Cut, Put}
-use Rattle.bx_keys.specs.declared.key.Key.TheVariants.{Find, FindBack, WordLeft, WordRight, TextStart, TextEnd, Help, Notice}
-use Rattle.bx_keys.specs.declared.key.Key.TheVariants.{EraseWord, DeleteWord, ErasePoint, NewLine, FindNext, Cancel, LineUp, LineDown, PageBack, PageOn}
-use Rattle.bx_keys.specs.declared.key.Key.TheVariants.{Select, UndoRun, RedoRun, GoTo, Replace, Name, Tell, PasteStart, PasteEnd, Point}
+use Rattle.bx_keys.specs.declared.key.Key.TheVariants.{Insert, Erase, Delete, EraseWord, DeleteWord, ErasePoint, NewLine, Put}
 use Rattle.bx_text.specs.Edits.{fits, splice}
 use Rattle.bx_editor.specs.undo_groups.Groups.{goes_on, kind_of}
 use Rattle.bx_editor.specs.declared.undo_groups.typing.Kind.{Kind}
-use Rattle.bx_editor.specs.declared.undo_groups.typing.Kind.TheVariants.{Separator}
+use Rattle.bx_editor.specs.declared.undo_groups.typing.Kind.TheVariants.{Blank, Separator}
 use Rattle.bx_editor.specs.declared.undo_groups.typing.Typing.{Typing}
 use Rattle.bx_ucd.specs.Data.{Data}
+use Rattle.bx_editor.specs.declared.questions.answers.Prompt.TheVariants as prompts
 use Rattle.bx_editor.specs.declared.message.Message.TheVariants.{NothingToPut, TextFull}
 use Rattle.bx_editor.specs.declared.cursor.Soft.{Soft}
 use Rattle.bx_editor.specs.declared.cursor.Soft.TheVariants.{Off, Fresh, Old}
 use Rattle.bx_editor.specs.Editor.{Editor, cleared, place_after, with_insertion, with_removal}
-use Rattle.bx_editor.specs.Effects.{Effect, Types, BeginsLine, Puts, Removes, RemovesWord, Steps, StepsGroup, Goes, GoesByRows, Marks, Selects}
-use Rattle.bx_editor.specs.Effects.{Unmarks, Copies, Cuts, Seeks, SeeksNext, Saves, Quits, Turns, Helps, AsksLine, AsksName, Tells, Rests, Before, before, by}
+use Rattle.bx_editor.specs.Effects.{Effect, Removes, RemovesWord, by}
+use Rattle.bx_editor.specs.Before.{Before, before}
 use Rattle.bx_editor.specs.Erasing.{after_removing, or_selection, removed_on}
-use Rattle.bx_editor.specs.Keys.{after_any, after_key, as_left, effect_of}
+use Rattle.bx_editor.specs.Keys.{after_key, as_left, effect_of, refuses_replacing}
 use Rattle.bx_editor.specs.Functions.{is_told_key}
-use Rattle.bx_editor.specs.Putting.{after_character, after_new_line, has_room, line_end, put_in, typed, with_selection_replaced, yielding}
+use Rattle.bx_editor.specs.Putting.{after_character, after_new_line, as_line, has_room, line_end, new_indent, put_in, put_line, puts_line, spaces_on, typed, units_in_line, with_selection_replaced, yielding}
 use Rattle.bx_editor.specs.Region.{is_empty, region, is_selection, is_soft}
 use Rattle.bx_editor_laws.specs.SelectionLaws.{bytes_put, is_removal, rest, rest_with, seam, HasSelection, IsRefused, IsReplacedBy, IsRest}
 use Rattle.bx_editor_laws.specs.SelectionLaws.{SelectionComesBack, SelectionGivesWay, SelectionIsRemoved}
-use Rattle.bx_editor.proofs.InSearch.{any-key}
-use Rattle.bx_editor_laws.proofs.OneRun.{goes-back, removal-begins, replacement-begins, IsOneRun}
+use Rattle.bx_editor_laws.proofs.KeyEnds.{DoesWork, and-false, free-done}
+use Rattle.bx_editor_laws.proofs.OneRun.{goes-back, insert-is, removal-begins, replacement-begins, IsOneRun}
 
 -- ---- a selection
 
@@ -61,94 +59,27 @@ removes (Removes how start stop) = true
 removes (RemovesWord start stop) = true
 removes _ = false
 
-removing : (d : Data) (e : Editor) (key : Key) → is_removal key ≡ true → (removes (effect_of d e key) ≡ true) × (is_told_key key ≡ false)
-removing d e (Insert c) is = absurd (cc is)
-removing d e Erase is = (refl, refl)
-removing d e Delete is = (refl, refl)
-removing d e Back is = absurd (cc is)
-removing d e Forward is = absurd (cc is)
-removing d e Up is = absurd (cc is)
-removing d e Down is = absurd (cc is)
-removing d e Right is = absurd (cc is)
-removing d e Left is = absurd (cc is)
-removing d e RowHome is = absurd (cc is)
-removing d e RowEnd is = absurd (cc is)
-removing d e PageUp is = absurd (cc is)
-removing d e PageDown is = absurd (cc is)
-removing d e Save is = absurd (cc is)
-removing d e Quit is = absurd (cc is)
-removing d e Undo is = absurd (cc is)
-removing d e Redo is = absurd (cc is)
-removing d e Repaint is = absurd (cc is)
-removing d e Direction is = absurd (cc is)
-removing d e Mark is = absurd (cc is)
-removing d e Copy is = absurd (cc is)
-removing d e Cut is = absurd (cc is)
-removing d e Put is = absurd (cc is)
-removing d e Find is = absurd (cc is)
-removing d e FindBack is = absurd (cc is)
-removing d e WordLeft is = absurd (cc is)
-removing d e WordRight is = absurd (cc is)
-removing d e TextStart is = absurd (cc is)
-removing d e TextEnd is = absurd (cc is)
-removing d e Help is = absurd (cc is)
-removing d e EraseWord is = (refl, refl)
-removing d e DeleteWord is = (refl, refl)
-removing d e ErasePoint is = (refl, refl)
-removing d e NewLine is = absurd (cc is)
-removing d e FindNext is = absurd (cc is)
-removing d e Cancel is = absurd (cc is)
-removing d e LineUp is = absurd (cc is)
-removing d e LineDown is = absurd (cc is)
-removing d e PageBack is = absurd (cc is)
-removing d e PageOn is = absurd (cc is)
-removing d e Select is = absurd (cc is)
-removing d e UndoRun is = absurd (cc is)
-removing d e RedoRun is = absurd (cc is)
-removing d e GoTo is = absurd (cc is)
-removing d e Replace is = absurd (cc is)
-removing d e Name is = absurd (cc is)
-removing d e Tell is = absurd (cc is)
-removing d e PasteStart is = absurd (cc is)
-removing d e PasteEnd is = absurd (cc is)
-removing d e (Point row column) is = absurd (cc is)
-removing d e (Size height width) is = absurd (cc is)
-removing d e (Notice notice) is = absurd (cc is)
+removing : (d : Data) (e : Editor) (key : Key) → is_removal key ≡ true
+    → (removes (effect_of d e key) ≡ true) × ((is_told_key key ≡ false) × (refuses_replacing e key ≡ false))
+removing d e Erase is = (refl, (refl, refl))
+removing d e Delete is = (refl, (refl, refl))
+removing d e ErasePoint is = (refl, (refl, refl))
+removing d e EraseWord is = (refl, (refl, refl))
+removing d e DeleteWord is = (refl, (refl, refl))
+removing d e _ is = absurd (cc is)
 
 removed : (d : Data) (was : Before) (e : Editor) (one : Effect) → is_selection e ≡ true → removes one ≡ true
     → by d None was e one ≡ with_removal d e (region e).0 (region e).1 false
-removed d was e (Types c) selected is = absurd (cc is)
-removed d was e BeginsLine selected is = absurd (cc is)
-removed d was e Puts selected is = absurd (cc is)
 removed d was e (Removes how start stop) selected is = or-removed d e (removed_on d was.typing how e start stop) selected
 removed d was e (RemovesWord start stop) selected is = or-removed d e (after_removing d e start stop false) selected
-removed d was e (Steps way) selected is = absurd (cc is)
-removed d was e (StepsGroup way) selected is = absurd (cc is)
-removed d was e (Goes place) selected is = absurd (cc is)
-removed d was e (GoesByRows way n) selected is = absurd (cc is)
-removed d was e Marks selected is = absurd (cc is)
-removed d was e Selects selected is = absurd (cc is)
-removed d was e Unmarks selected is = absurd (cc is)
-removed d was e Copies selected is = absurd (cc is)
-removed d was e Cuts selected is = absurd (cc is)
-removed d was e (Seeks purpose) selected is = absurd (cc is)
-removed d was e SeeksNext selected is = absurd (cc is)
-removed d was e Saves selected is = absurd (cc is)
-removed d was e Quits selected is = absurd (cc is)
-removed d was e Turns selected is = absurd (cc is)
-removed d was e Helps selected is = absurd (cc is)
-removed d was e AsksLine selected is = absurd (cc is)
-removed d was e AsksName selected is = absurd (cc is)
-removed d was e Tells selected is = absurd (cc is)
-removed d was e Rests selected is = absurd (cc is)
+removed d was e _ selected is = absurd (cc is)
 
 removed-is : (d : Data) (e : Editor) (key : Key) → HasSelection e → is_removal key ≡ true
     → after_key d None e key ≡ as_left key (with_removal d (cleared e) (region e).0 (region e).1 false)
 removed-is d e key has is =
     let was = cleared e in
     let keys = removing d was key is in
-    any-key d None e key has.no_paste keys.1
-    ∙ ap₂ (λ a s. as_left key (after_any d None (before e) a s was key)) has.no_question has.no_search
+    free-done d None e key has.no_paste keys.1.0 keys.1.1 has.no_question has.no_search has.writes
     ∙ ap (as_left key) (removed d (before e) was (effect_of d was key) (selection-is e has) keys.0)
 
 pub selection-is-removed : SelectionIsRemoved
@@ -161,7 +92,7 @@ selection-is-removed d e key has is =
 -- the bytes stand in its place, of one undo group with its removal, or were refused
 record Yields (d : Data) (e : Editor) (bytes : List ℕ) (new : Editor) : Type 0 where
   pub fits : length (rest_with d e bytes) ≤ largest_text → IsReplacedBy d e bytes new
-  pub goes : length (rest_with d e bytes) ≤ largest_text → IsOneRun e new × (new.pasted ≡ None)
+  pub goes : length (rest_with d e bytes) ≤ largest_text → IsOneRun e new × DoesWork new
   pub full : largest_text < length (rest_with d e bytes) → IsRefused e new
 
 size-with : (text new : List ℕ) (at : ℕ) → length (take at text ++ new ++ drop at text) ≡ length text + length new
@@ -215,6 +146,7 @@ still e has = record {
   no_question = has.no_question;
   no_search = has.no_search;
   no_paste = has.no_paste;
+  writes = has.writes;
   soft = has.soft;
   part = record { some = has.part.some; inside = has.part.inside };
 }
@@ -229,6 +161,9 @@ replaced d e key typing new =
       mark_is = refl;
     }
 
+asks-none : (e : Editor) → HasSelection e → e.prompt ≡ prompts.Overwrite → ⊥
+asks-none e has over = let both = sym has.no_question ∙ over in cc both
+
 -- whatever a key makes of `typing`
 put-yields : (d : Data) (e : Editor) (key : Key) (typing : Typing) (new : List ℕ) (on : Bool) → HasSelection e
     → Yields d e new (as_left key (record (put_in d (cleared e) new on) { typing = typing }))
@@ -238,8 +173,8 @@ put-yields d e key typing new on has = record {
       (replaced d e key typing new);
   goes = λ few.
       let begun = replacement-begins d e (cleared e) new (refl, (refl, refl)) in
-      subst (λ (p : Editor). let now = as_left key (record p { typing = typing }) in IsOneRun e now × (now.pasted ≡ None))
-      (sym (put-fits d (cleared e) new on (still e has) few)) (record { more = begun.more; over = begun.over; start = begun.start }, has.no_paste);
+      subst (λ (p : Editor). let now = as_left key (record p { typing = typing }) in IsOneRun e now × DoesWork now)
+      (sym (put-fits d (cleared e) new on (still e has) few)) (record { more = begun.more; over = begun.over; start = begun.start }, record { settled = has.no_paste; other = asks-none e has; writes = has.writes });
   full = λ many.
       subst (λ (p : Editor). IsRefused e (as_left key (record p { typing = typing }))) (sym (put-full d (cleared e) new on (still e has) many))
       (record { content_is = refl; place_is = refl; mark_is = refl; message_is = refl });
@@ -255,27 +190,39 @@ typed-yields d e key typing new kind has =
     put-yields d e key ((typed d typing (cleared e) new kind).typing) new (goes_on typing kind) has
 
 line-yields : (d : Data) (e : Editor) (key : Key) (typing : Typing) → HasSelection e
-    → Yields d e (line_end d (rest e)) (as_left key (after_new_line d typing (cleared e)))
+    → Yields d e (line_end d (rest e) ++ new_indent d e) (as_left key (after_new_line d typing (cleared e)))
 line-yields d e key typing has =
     let text = e.content.text in
+    let indent = new_indent d e in
+    let bytes = line_end d (rest e) ++ indent in
     let selected : yielding e ≡ region e = ap (λ b. if b then region e else (e.place, e.place)) (selection-is e has) in
-    subst (λ (part : ℕ × ℕ). Yields d e (line_end d (rest e)) (as_left key (typed d typing (cleared e) (line_end d (splice text part.0 part.1 [])) Separator)))
+    subst (λ (part : ℕ × ℕ). Yields d e bytes (as_left key (typed d typing (cleared e) (line_end d (splice text part.0 part.1 []) ++ indent) Separator)))
     (sym selected)
-    (subst (λ rest_text. Yields d e (line_end d (rest e)) (as_left key (typed d typing (cleared e) (line_end d rest_text) Separator))) (sym (rest-is e))
-    (typed-yields d e key typing (line_end d (rest e)) Separator has))
+    (subst (λ rest_text. Yields d e bytes (as_left key (typed d typing (cleared e) (line_end d rest_text ++ indent) Separator))) (sym (rest-is e))
+    (typed-yields d e key typing bytes Separator has))
+
+insert-by : (d : Data) (e : Editor) (c : ℕ) (tab none : Bool) → (c == 0x9) ≡ tab → HasSelection e
+    → let one : ℕ → Editor = λ k. typed d e.typing (cleared e) (encode_utf8 k) (kind_of (d.class k)) in
+    let spaces : List ℕ = replicate (spaces_on e.tab_width (units_in_line d e (yielding e).0)) 0x20 in
+    Yields d e (if tab && not none then spaces else encode_utf8 c)
+    (as_left (Insert c) (if tab then (if none then one 0x9 else typed d e.typing (cleared e) spaces Blank) else one c))
+insert-by d e c true true is has =
+    subst (λ k. Yields d e (encode_utf8 k) (as_left (Insert c) (typed d e.typing (cleared e) (encode_utf8 0x9) (kind_of (d.class 0x9)))))
+    (sym (eqb-true c 0x9 is)) (typed-yields d e (Insert c) e.typing (encode_utf8 0x9) (kind_of (d.class 0x9)) has)
+insert-by d e c true false is has =
+    typed-yields d e (Insert c) e.typing (replicate (spaces_on e.tab_width (units_in_line d e (yielding e).0)) 0x20) Blank has
+insert-by d e c false none is has = typed-yields d e (Insert c) e.typing (encode_utf8 c) (kind_of (d.class c)) has
 
 insert-gives-way : (d : Data) (e : Editor) (c : ℕ) → HasSelection e → Yields d e (bytes_put d e (Insert c)) (after_key d None e (Insert c))
 insert-gives-way d e c has =
     takes d e (Insert c) (as_left (Insert c) (after_character d e.typing (cleared e) c))
-    (any-key d None e (Insert c) has.no_paste refl
-    ∙ ap₂ (λ a s. as_left (Insert c) (after_any d None (before e) a s (cleared e) (Insert c))) has.no_question has.no_search)
-    (typed-yields d e (Insert c) e.typing (encode_utf8 c) (kind_of (d.class c)) has)
+    (insert-is d e c has.no_paste has.no_question has.no_search has.writes)
+    (insert-by d e c (c == 0x9) (e.tab_width == 0) refl has)
 
 new-line-gives-way : (d : Data) (e : Editor) → HasSelection e → Yields d e (bytes_put d e NewLine) (after_key d None e NewLine)
 new-line-gives-way d e has =
     takes d e NewLine (as_left NewLine (after_new_line d e.typing (cleared e)))
-    (any-key d None e NewLine has.no_paste refl
-    ∙ ap₂ (λ a s. as_left NewLine (after_any d None (before e) a s (cleared e) NewLine)) has.no_question has.no_search)
+    (free-done d None e NewLine has.no_paste refl refl has.no_question has.no_search has.writes)
     (line-yields d e NewLine e.typing has)
 
 some-held : (held : List ℕ) → held ≢ [] → (length held == 0) ≡ false
@@ -285,65 +232,20 @@ some-held (b ∷ held) some = ne_eqb (length (b ∷ held)) 0 (λ same. omega (ar
 put-gives-way : (d : Data) (e : Editor) → HasSelection e → e.held ≢ [] → Yields d e (bytes_put d e Put) (after_key d None e Put)
 put-gives-way d e has some =
     let was = cleared e in
-    takes d e Put (as_left Put (put_in d was e.held false))
-    (any-key d None e Put has.no_paste refl
-    ∙ ap₂ (λ a s. as_left Put (after_any d None (before e) a s was Put)) has.no_question has.no_search
-    ∙ ap (λ b. as_left Put (if b then record was { message = Some NothingToPut } else put_in d was e.held false)) (some-held e.held some))
-    (put-yields d e Put ((put_in d was e.held false).typing) e.held false has)
+    let over = put_line d was (as_line d was e.held) in
+    let here = put_in d was e.held false in
+    takes d e Put (as_left Put here)
+    (free-done d None e Put has.no_paste refl refl has.no_question has.no_search has.writes
+    ∙ ap (λ b. as_left Put (if b then record was { message = Some NothingToPut } else if puts_line was then over else here)) (some-held e.held some)
+    ∙ ap (λ s. as_left Put (if e.whole_line && not s then over else here)) (selection-is e has)
+    ∙ ap (λ b. as_left Put (if b then over else here)) (and-false e.whole_line))
+    (put-yields d e Put (here.typing) e.held false has)
 
 gives-way : (d : Data) (e : Editor) (key : Key) → HasSelection e → bytes_put d e key ≢ [] → Yields d e (bytes_put d e key) (after_key d None e key)
 gives-way d e (Insert c) has some = insert-gives-way d e c has
-gives-way d e Erase has some = absurd (some refl)
-gives-way d e Delete has some = absurd (some refl)
-gives-way d e Back has some = absurd (some refl)
-gives-way d e Forward has some = absurd (some refl)
-gives-way d e Up has some = absurd (some refl)
-gives-way d e Down has some = absurd (some refl)
-gives-way d e Right has some = absurd (some refl)
-gives-way d e Left has some = absurd (some refl)
-gives-way d e RowHome has some = absurd (some refl)
-gives-way d e RowEnd has some = absurd (some refl)
-gives-way d e PageUp has some = absurd (some refl)
-gives-way d e PageDown has some = absurd (some refl)
-gives-way d e Save has some = absurd (some refl)
-gives-way d e Quit has some = absurd (some refl)
-gives-way d e Undo has some = absurd (some refl)
-gives-way d e Redo has some = absurd (some refl)
-gives-way d e Repaint has some = absurd (some refl)
-gives-way d e Direction has some = absurd (some refl)
-gives-way d e Mark has some = absurd (some refl)
-gives-way d e Copy has some = absurd (some refl)
-gives-way d e Cut has some = absurd (some refl)
-gives-way d e Put has some = put-gives-way d e has some
-gives-way d e Find has some = absurd (some refl)
-gives-way d e FindBack has some = absurd (some refl)
-gives-way d e WordLeft has some = absurd (some refl)
-gives-way d e WordRight has some = absurd (some refl)
-gives-way d e TextStart has some = absurd (some refl)
-gives-way d e TextEnd has some = absurd (some refl)
-gives-way d e Help has some = absurd (some refl)
-gives-way d e EraseWord has some = absurd (some refl)
-gives-way d e DeleteWord has some = absurd (some refl)
-gives-way d e ErasePoint has some = absurd (some refl)
 gives-way d e NewLine has some = new-line-gives-way d e has
-gives-way d e FindNext has some = absurd (some refl)
-gives-way d e Cancel has some = absurd (some refl)
-gives-way d e LineUp has some = absurd (some refl)
-gives-way d e LineDown has some = absurd (some refl)
-gives-way d e PageBack has some = absurd (some refl)
-gives-way d e PageOn has some = absurd (some refl)
-gives-way d e Select has some = absurd (some refl)
-gives-way d e UndoRun has some = absurd (some refl)
-gives-way d e RedoRun has some = absurd (some refl)
-gives-way d e GoTo has some = absurd (some refl)
-gives-way d e Replace has some = absurd (some refl)
-gives-way d e Name has some = absurd (some refl)
-gives-way d e Tell has some = absurd (some refl)
-gives-way d e PasteStart has some = absurd (some refl)
-gives-way d e PasteEnd has some = absurd (some refl)
-gives-way d e (Point row column) has some = absurd (some refl)
-gives-way d e (Size height width) has some = absurd (some refl)
-gives-way d e (Notice notice) has some = absurd (some refl)
+gives-way d e Put has some = put-gives-way d e has some
+gives-way d e _ has some = absurd (some refl)
 
 pub selection-gives-way : SelectionGivesWay
 selection-gives-way d e key has some = let yields = gives-way d e key has some in record { fits = yields.fits; full = yields.full }
@@ -354,6 +256,8 @@ selection-comes-back d e key has = record {
       let begun = removal-begins d e (cleared e) (region e).0 (region e).1 (refl, (refl, refl)) in
       let there = removed-is d e key has is in
       let goes = subst (IsOneRun e) (sym there) (record { more = begun.more; over = begun.over; start = begun.start }) in
-      goes-back d e (after_key d None e key) (ap (λ (new : Editor). new.pasted) there ∙ has.no_paste) goes;
+      let works : DoesWork (as_left key (with_removal d (cleared e) (region e).0 (region e).1 false)) =
+      record { settled = has.no_paste; other = asks-none e has; writes = has.writes } in
+      goes-back d e (after_key d None e key) (subst DoesWork (sym there) works) goes;
   replaced = λ some few. let goes = (gives-way d e key has some).goes few in goes-back d e (after_key d None e key) goes.1 goes.0;
 }

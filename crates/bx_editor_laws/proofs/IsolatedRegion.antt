@@ -183,7 +183,7 @@ module _ (d : Data) (e : Editor) (letter opener closer : ℕ) (can : CanIsolate 
 
   new-text : new.content.text ≡ take start text ++ (front_bytes ++ (bytes_in e (region e) ++ (back_bytes ++ drop stop text)))
   new-text =
-      ((letter-wraps d e letter opener closer can.settled can.opener_is can.closer_is part).fits can.one_line can.room).text_is
+      ((letter-wraps d e letter opener closer can.can can.opener_is can.closer_is part).fits can.one_line can.room).text_is
       ∙ append_assoc (take start text ++ front_bytes ++ bytes_in e (region e)) back_bytes (drop stop text)
       ∙ append_assoc (take start text ++ front_bytes) (bytes_in e (region e)) (back_bytes ++ drop stop text)
       ∙ append_assoc (take start text) front_bytes (bytes_in e (region e) ++ (back_bytes ++ drop stop text))

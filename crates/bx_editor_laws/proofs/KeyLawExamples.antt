@@ -35,11 +35,11 @@ at_the_end = after at_the_start (TextEnd ∷ [])
 
 plain_at_the_start : IsPlain at_the_start
 unfolding unicode_segmentation unicode_width digits
-plain_at_the_start = record { text = (two_words, (refl, refl)); unasked = refl; unsought = refl; settled = refl; unselected = refl }
+plain_at_the_start = record { text = (two_words, (refl, refl)); unasked = refl; unsought = refl; settled = refl; writes = refl; unselected = refl }
 
 plain_at_the_end : IsPlain at_the_end
 unfolding unicode_segmentation unicode_width digits
-plain_at_the_end = record { text = (two_words, (refl, refl)); unasked = refl; unsought = refl; settled = refl; unselected = refl }
+plain_at_the_end = record { text = (two_words, (refl, refl)); unasked = refl; unsought = refl; settled = refl; writes = refl; unselected = refl }
 
 forward_stops : text_stops tables ways.Forward two_words ≡ 0 ∷ 3 ∷ 5 ∷ []
 unfolding unicode_segmentation unicode_width
@@ -112,11 +112,11 @@ lf_start = start lf_text 4 20
 
 plain_crlf : IsPlain crlf_start
 unfolding unicode_segmentation unicode_width digits
-plain_crlf = record { text = (crlf_text, (refl, refl)); unasked = refl; unsought = refl; settled = refl; unselected = refl }
+plain_crlf = record { text = (crlf_text, (refl, refl)); unasked = refl; unsought = refl; settled = refl; writes = refl; unselected = refl }
 
 plain_lf : IsPlain lf_start
 unfolding unicode_segmentation unicode_width digits
-plain_lf = record { text = (lf_text, (refl, refl)); unasked = refl; unsought = refl; settled = refl; unselected = refl }
+plain_lf = record { text = (lf_text, (refl, refl)); unasked = refl; unsought = refl; settled = refl; writes = refl; unselected = refl }
 
 pub cr_lf_goes_before_cr_lf : NewLinePutsSeparator → (after crlf_start (NewLine ∷ [])).content.text ≡ 0xD ∷ 0xA ∷ crlf_text
 unfolding unicode_segmentation unicode_width digits
@@ -177,13 +177,13 @@ one_run_in_reach =
 pub undone_to_the_saved_text_it_is_unchanged : StoredIsUnchanged → (after behind_ab (Save ∷ one_run_undone ++ UndoRun ∷ [])).changed ≡ false
 unfolding unicode_segmentation unicode_width digits
 undone_to_the_saved_text_it_is_unchanged law =
-    ((law.saved tables behind_ab (typed one_run_undone) one_run_in_reach refl).0.stored
+    ((law.saved tables behind_ab Save (typed one_run_undone) refl one_run_in_reach refl (λ over. cc over) refl).0.stored
     (λ none. let three : 3 ≡ 0 = ap length none in cc three)) refl
 
 pub before_that_it_is_changed : StoredIsUnchanged → (after behind_ab (Save ∷ one_run_undone)).changed ≡ true
 unfolding unicode_segmentation unicode_width digits
 before_that_it_is_changed law =
-    ((law.saved tables behind_ab (typed (letters (codes " cd"))) letters_in_reach refl).0.other
+    ((law.saved tables behind_ab Save (typed (letters (codes " cd"))) refl letters_in_reach refl (λ over. cc over) refl).0.other
     (λ none. let five : 5 ≡ 0 = ap length none in cc five)) (λ is. let apart : 3 ≡ 2 = is in cc apart)
 
 undone_in_reach : StaysInReach tables 2 saved_ab (typed (UndoRun ∷ []))
@@ -193,7 +193,7 @@ undone_in_reach = let two : 2 ≤ 2 = omega arith in (inl two, (refl, tt))
 pub redone_to_the_saved_text_it_is_unchanged : StoredIsUnchanged → (after behind_ab (Save ∷ UndoRun ∷ RedoRun ∷ [])).changed ≡ false
 unfolding unicode_segmentation unicode_width digits
 redone_to_the_saved_text_it_is_unchanged law =
-    ((law.saved tables behind_ab (typed (UndoRun ∷ [])) undone_in_reach refl).1.stored
+    ((law.saved tables behind_ab Save (typed (UndoRun ∷ [])) refl undone_in_reach refl (λ over. cc over) refl).1.stored
     (λ none. let two : 2 ≡ 0 = ap length none in cc two)) refl
 
 typed_in_reach : StaysInReach tables 0 (start (codes "ab") 5 40) (typed (letters (codes "xy")))
@@ -207,5 +207,5 @@ pub undone_to_the_opened_text_it_is_unchanged : StoredIsUnchanged
     → (after (start (codes "ab") 5 40) (letters (codes "xy") ++ UndoRun ∷ [])).changed ≡ false
 unfolding unicode_segmentation unicode_width digits
 undone_to_the_opened_text_it_is_unchanged law =
-    ((law.opened tables (codes "ab") 5 40 Auto (typed (letters (codes "xy"))) typed_in_reach refl).0.stored
+    ((law.opened tables (codes "ab") 5 40 Auto (typed (letters (codes "xy"))) typed_in_reach refl (λ over. cc over) refl).0.stored
     (λ none. let two : 2 ≡ 0 = ap length none in cc two)) refl

@@ -1,9 +1,10 @@
 -- A letter puts its character in, or wraps the region.
 use Rattle.std.proofs.Common.{◌≡◌, ℕ, ◌+◌, ◌-◌, ◌<◌, ◌≤◌, Bool, true, false, [], ◌∷◌, ◌++◌, length, take, drop, append_assoc, refl, sym, ap, subst, ◌∙◌, arith, inl, inr, if◌then◌else◌}
-use Rattle.std.specs.Prelude.{◌⊎◌, ◌==◌, encode_utf8, nat_le, slice_range, Option, Some, None}
+use Rattle.std.specs.Prelude.{◌⊎◌, ◌==◌, ◌||◌, encode_utf8, is_some, nat_le, slice_range, Option, Some, None}
 use Rattle.std.proofs.lemmas.Bool.Decides.{nat_tests}
 use Rattle.bx_common.specs.Characters.{largest_text}
-use Rattle.bx_editor.specs.questions.Names.{closing, named}
+use Rattle.bx_editor.specs.questions.KeyLetters.{answers_name, key_letter, letter_or, name_letter}
+use Rattle.bx_editor.specs.questions.Names.{asks_code, closing, named}
 use Rattle.bx_keys.specs.declared.key.Key.TheVariants.{Insert, Name}
 use Rattle.bx_editor.specs.undo_groups.Groups.{after_insertion, kind_of}
 use Rattle.bx_text.specs.Edits.{fits_both}
@@ -12,10 +13,9 @@ use Rattle.bx_document.specs.Swapped.{wrapped_end, wrapped_text}
 use Rattle.bx_document.proofs.PlacesKept.{wrapped_is}
 use Rattle.bx_editor.specs.declared.message.Message.{Message}
 use Rattle.bx_editor.specs.declared.message.Message.TheVariants.{MoreThanOneLine, TextFull}
-use Rattle.bx_editor.specs.declared.search_state.SearchState.{SearchState}
 use Rattle.bx_editor.specs.Asking.{after_name_letter, after_named, with_character, without_prompt, after_wrapping, cursor_end, spans_lines}
 use Rattle.bx_editor.specs.Asking.{with_wrap}
-use Rattle.bx_editor_laws.specs.AskingLaws.{IsPutIn, IsRefusedWith, IsWrapped, LetterPutsIn, LetterWraps, WrapsRegion, wrapped_region}
+use Rattle.bx_editor_laws.specs.AskingLaws.{CanAsk, IsPutIn, IsRefusedWith, IsWrapped, LetterPutsIn, LetterWraps, WrapsRegion, wrapped_region}
 use Rattle.bx_editor.specs.Editor.{Editor, cleared, place_after, with_insertion, with_typing}
 use Rattle.bx_editor.specs.Keys.{after_key, as_left}
 use Rattle.bx_editor.specs.Functions.{after_keys}
@@ -27,15 +27,21 @@ use Rattle.bx_editor_laws.proofs.AskingKeys.{asked_name, name-is}
 -- ---- Name and a letter
 
 -- what the letter finds
-abbrev asked : Editor → SearchState → Editor
-asked e search_state = without_prompt (cleared (asked_name e search_state))
+abbrev asked : Editor → Editor
+asked e = without_prompt (cleared (asked_name e))
 
-letter-is : (d : Data) (e : Editor) (letter c : ℕ) → e.pasted ≡ None → named letter ≡ Some c
-    → after_keys d None e (Name ∷ Insert letter ∷ []) ≡ as_left (Insert letter) (after_named d (asked e (after_key d None e Name).search_state) c (closing letter))
-letter-is d e letter c settled is =
-    let search_state = (after_key d None e Name).search_state in
-    ap (λ x. after_key d None x (Insert letter)) (name-is d e settled) ∙ any-key d None (asked_name e search_state) (Insert letter) settled refl
-    ∙ ap (λ n. as_left (Insert letter) (after_name_letter d (cleared (asked_name e search_state)) letter n)) is
+pub is-itself : (letter : ℕ) → answers_name letter ≡ true → name_letter letter ≡ letter
+is-itself letter answers = ap (λ b. if b then letter else letter_or answers_name letter (key_letter letter)) answers
+
+letter-is : (d : Data) (e : Editor) (letter c : ℕ) → CanAsk e → named letter ≡ Some c
+    → after_keys d None e (Name ∷ Insert letter ∷ []) ≡ as_left (Insert letter) (after_named d (asked e) c (closing letter))
+letter-is d e letter c can is =
+    let x = cleared (asked_name e) in
+    let answers : answers_name letter ≡ true = ap (λ o. is_some o || asks_code letter) is in
+    ap (λ new. after_key d None new (Insert letter)) (name-is d e can.settled can.undecided can.writes)
+    ∙ any-key d None (asked_name e) (Insert letter) can.settled refl
+    ∙ ap (λ n. as_left (Insert letter) (after_name_letter d x n (named n))) (is-itself letter answers)
+    ∙ ap (λ n. as_left (Insert letter) (after_name_letter d x letter n)) is
 
 -- ---- a character is put in
 
@@ -59,10 +65,9 @@ character-in d e c few =
     (room-for (length e.content.text) e.place (length bytes) largest_text few)
 
 pub letter-puts-in : LetterPutsIn
-letter-puts-in d e letter c settled is alone few =
-    let search_state = (after_key d None e Name).search_state in
-    let at = asked e search_state in
-    let whole = letter-is d e letter c settled is ∙ ap (as_left (Insert letter)) (character-alone d at c (closing letter) alone ∙ character-in d at c few) in
+letter-puts-in d e letter c can is alone few =
+    let at = asked e in
+    let whole = letter-is d e letter c can is ∙ ap (as_left (Insert letter)) (character-alone d at c (closing letter) alone ∙ character-in d at c few) in
     subst (IsPutIn d e (encode_utf8 c)) (sym whole) (record { text_is = refl; place_is = refl; prompt_is = refl })
 
 -- ---- a region is wrapped
@@ -95,10 +100,10 @@ text-is e opener closer part =
     sym (wrapped_is text start stop front back order part.inside)
     ∙ ap (λ xs. xs ++ drop stop text) (sym (append_assoc (take start text) (front ++ inside) back) ∙ ap (λ xs. xs ++ back) (sym (append_assoc (take start text) front inside)))
 
-module _ (d : Data) (e : Editor) (letter opener closer : ℕ) (settled : e.pasted ≡ None) (is : named letter ≡ Some opener) (ends : closing letter ≡ Some closer)
+module _ (d : Data) (e : Editor) (letter opener closer : ℕ) (can : CanAsk e) (is : named letter ≡ Some opener) (ends : closing letter ≡ Some closer)
     (part : IsPart e (region e)) where
   abbrev at : Editor
-  at = asked e (after_key d None e Name).search_state
+  at = asked e
 
   abbrev wrap : Editor
   wrap = with_wrap d at (encode_utf8 opener) (encode_utf8 closer)
@@ -116,7 +121,7 @@ module _ (d : Data) (e : Editor) (letter opener closer : ℕ) (settled : e.paste
   wraps-by : (lines : Bool) → spans_lines d e ≡ lines
       → after_keys d None e (Name ∷ Insert letter ∷ []) ≡ as_left (Insert letter) (if lines then record at { message = Some MoreThanOneLine } else (if room then wrap else full))
   wraps-by lines h =
-      letter-is d e letter opener settled is
+      letter-is d e letter opener can is
       ∙ ap (as_left (Insert letter)) (wraps-alone d at opener closer (closing letter) ends (record { some = part.some; inside = part.inside })
       ∙ ap (λ b. if b then record at { message = Some MoreThanOneLine } else (if room then wrap else full)) h)
 
@@ -146,4 +151,4 @@ module _ (d : Data) (e : Editor) (letter opener closer : ℕ) (settled : e.paste
   }
 
 pub letter-wraps : LetterWraps
-letter-wraps d e letter opener closer settled is ends part = wraps d e letter opener closer settled is ends part
+letter-wraps d e letter opener closer can is ends part = wraps d e letter opener closer can is ends part

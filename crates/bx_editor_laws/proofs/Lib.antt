@@ -5,6 +5,10 @@ pub mod WordKeyExamples
 pub mod WorkKeyExamples
 pub mod SearchExamples
 pub mod StatusExamples
+pub mod KeyKept
+pub mod KeyEnds
+pub mod LineKept
+pub mod LineEnd
 pub mod PasteEnded
 pub mod Unsought
 pub mod Nearest
@@ -24,6 +28,7 @@ pub mod WorkLawExamples
 pub mod Chains
 pub mod RunKeys
 pub mod StoredText
+pub mod StoredKeys
 pub mod MirroredRuns
 pub mod OneRun
 pub mod PasteTyped
@@ -68,6 +73,8 @@ pub mod Cancelled
 pub mod MarksTaken
 pub mod ColumnKept
 pub mod InReach
+pub mod ReachKeys
+pub mod StoredNow
 pub mod StoredUnchanged
 mod KeyLawExamples
 mod RefusalLawExamples
@@ -77,3 +84,9 @@ pub mod TextsChanged
 pub mod OneCause
 pub mod MessageWords
 pub mod CauseKinds
+pub mod OverwriteAnswer
+pub mod KeyLetters
+pub mod PromptKept
+pub mod InputLawExamples
+pub mod DragTaken
+pub mod ViewKept

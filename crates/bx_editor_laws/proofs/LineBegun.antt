@@ -15,11 +15,10 @@ use Rattle.bx_text.specs.Edits.{fits, splice}
 use Rattle.bx_ucd.specs.Data.{Data}
 use Rattle.bx_editor.specs.declared.message.Message.TheVariants.{TextFull}
 use Rattle.bx_editor.specs.Editor.{Editor, cleared, with_insertion}
-use Rattle.bx_editor.specs.Effects.{before}
-use Rattle.bx_editor.specs.Keys.{after_any, after_key}
-use Rattle.bx_editor.specs.Putting.{has_room, line_end, only_paste, typed, with_selection_replaced, yielding}
+use Rattle.bx_editor.specs.Keys.{after_key}
+use Rattle.bx_editor.specs.Putting.{has_room, line_end, new_indent, only_paste, typed, with_selection_replaced, yielding}
 use Rattle.bx_editor.specs.Region.{region, is_selection}
-use Rattle.bx_editor.proofs.InSearch.{any-key, behind}
+use Rattle.bx_editor_laws.proofs.KeyEnds.{behind, free-done}
 use Rattle.bx_editor_laws.specs.LineLaws.{NewLinePutsSeparator, PutsIfRoom, PutsIn, cr_lf, first_separator}
 use Rattle.bx_editor_laws.specs.SelectionLaws.{IsRefused}
 use Rattle.bx_editor_laws.specs.WordLaws.{IsPlain}
@@ -64,12 +63,11 @@ module _ (d : Data) (e : Editor) (plain : IsPlain e) where
       ∙ ap (λ xs. xs ++ drop e.place e.content.text) (append-nil (take e.place e.content.text))
       ∙ take-append-drop e.place e.content.text
 
-  new-line-is : (bytes : List ℕ) → line_end d e.content.text ≡ bytes
+  new-line-is : (bytes : List ℕ) → line_end d e.content.text ++ new_indent d e ≡ bytes
       → after_key d None e NewLine ≡ behind (typed d e.typing was bytes Separator)
   new-line-is bytes is =
-      any-key d None e NewLine plain.settled refl
-      ∙ ap₂ (λ a s. behind (after_any d None (before e) a s was NewLine)) plain.unasked plain.unsought
-      ∙ ap (λ text. behind (typed d e.typing was (line_end d text) Separator)) nothing-out
+      free-done d None e NewLine plain.settled refl refl plain.unasked plain.unsought plain.writes
+      ∙ ap (λ text. behind (typed d e.typing was (line_end d text ++ new_indent d e) Separator)) nothing-out
       ∙ ap (λ list. behind (typed d e.typing was list Separator)) is
 
   room-is : (bytes : List ℕ) → has_room was bytes ≡ fits e.content.text e.place e.place bytes
@@ -88,7 +86,7 @@ module _ (d : Data) (e : Editor) (plain : IsPlain e) where
   abbrev left : List ℕ → Editor → Editor
   left bytes x = behind (record x { typing = if has_room was bytes then after_insertion Separator else only_paste e.typing })
 
-  if-room : (bytes : List ℕ) → line_end d e.content.text ≡ bytes → PutsIfRoom d e bytes (after_key d None e NewLine)
+  if-room : (bytes : List ℕ) → line_end d e.content.text ++ new_indent d e ≡ bytes → PutsIfRoom d e bytes (after_key d None e NewLine)
   if-room bytes is = record {
     fits =
         λ few.
@@ -107,6 +105,6 @@ module _ (d : Data) (e : Editor) (plain : IsPlain e) where
 
 pub new-line-puts-separator : NewLinePutsSeparator
 new-line-puts-separator d e plain = record {
-  crlf = λ same. if-room d e plain cr_lf (ap (λ s. line_by (is_cr_lf s)) same);
-  other = λ other. if-room d e plain (0xA ∷ []) (ap line_by (not-crlf (first_separator d e) other));
+  crlf = λ same. if-room d e plain (cr_lf ++ new_indent d e) (ap (λ s. line_by (is_cr_lf s) ++ new_indent d e) same);
+  other = λ other. if-room d e plain (0xA ∷ new_indent d e) (ap (λ b. line_by b ++ new_indent d e) (not-crlf (first_separator d e) other));
 }

@@ -25,8 +25,8 @@ use Rattle.bx_editor.specs.declared.message.Message.TheVariants.{TextFull}
 use Rattle.bx_editor.specs.declared.search_state.SearchState.TheVariants.{Off, Replacing}
 use Rattle.bx_editor_laws.specs.AskingLaws.{is_enter}
 use Rattle.bx_editor.specs.Editor.{Editor, cleared, place_after, with_exchange, with_typing}
-use Rattle.bx_editor.specs.Effects.{before}
-use Rattle.bx_editor.specs.Keys.{after_any, after_key, as_left}
+use Rattle.bx_editor.specs.Before.{before}
+use Rattle.bx_editor.specs.Keys.{after_any, after_key, as_left, is_overwrite}
 use Rattle.bx_editor.specs.Putting.{is_paste, only_paste}
 use Rattle.bx_editor_laws.specs.ReplaceLaws.{AreTheMatches, DoesReplace, EnterReplaces, FindPassesOver, GoesOn, HasReplacedAll, HasReplacedOne}
 use Rattle.bx_editor_laws.specs.ReplaceLaws.{IsFull, IsShowing, PassesOver, ReplaceReplacesAll, ReplacesMatch, ReplacesMatches, SameLettersStay}
@@ -34,6 +34,7 @@ use Rattle.bx_editor.specs.Replacing.{after_ending, after_match_letter, after_pa
 use Rattle.bx_editor.specs.Replacing.{match_stop, matches_on, next_match, on_from, with_matches_replaced}
 use Rattle.bx_editor.specs.Search.{reading, sought}
 use Rattle.bx_editor.proofs.InSearch.{any-key}
+use Rattle.bx_editor_laws.proofs.KeyEnds.{user-key}
 use Rattle.bx_editor_laws.proofs.MatchesApart.{all-lie, apart, are-spans, last-after, last-bound, letters-are}
 use Rattle.bx_editor_laws.proofs.MatchLetters.{all-swapped, end-letters, match-bound, match-letters, match-some, one-swapped, spelt}
 
@@ -49,20 +50,21 @@ entered d e NewLine settled unasked shown end =
     any-key d None e NewLine settled refl ∙ ap₂ (λ a s. as_left NewLine (after_any d None (before e) a s (cleared e) NewLine)) unasked shown
 entered d e _ settled unasked shown end = absurd (cc end)
 
-pub replaced-on : (d : Data) (e : Editor) → e.pasted ≡ None → e.prompt ≡ prompts.Off → e.search_state ≡ Replacing → after_key d None e Replace ≡ as_left Replace (after_replacing_all d (cleared e))
-replaced-on d e settled unasked shown =
-    any-key d None e Replace settled refl ∙ ap₂ (λ a s. as_left Replace (after_any d None (before e) a s (cleared e) Replace)) unasked shown
+pub replaced-on : (d : Data) (e : Editor) → e.pasted ≡ None → e.prompt ≡ prompts.Off → e.search_state ≡ Replacing → e.read_only ≡ false
+    → after_key d None e Replace ≡ as_left Replace (after_replacing_all d (cleared e))
+replaced-on d e settled unasked shown writes =
+    user-key d None e Replace settled refl (ap (λ r. r && not (is_overwrite e.prompt)) writes) ∙ ap₂ (λ a s. as_left Replace (after_any d None (before e) a s (cleared e) Replace)) unasked shown
 
 passed-over : (d : Data) (e : Editor) → e.pasted ≡ None → e.prompt ≡ prompts.Off → e.search_state ≡ Replacing → after_key d None e Find ≡ as_left Find (after_passing_over d (cleared e))
 passed-over d e settled unasked shown =
     any-key d None e Find settled refl ∙ ap₂ (λ a s. as_left Find (after_any d None (before e) a s (cleared e) Find)) unasked shown
 
 -- whatever becomes of a match by a line end or by Replace
-pub each-replaces : (P : Editor → Type 0) (d : Data) (e : Editor) (key : Key) → e.pasted ≡ None → e.prompt ≡ prompts.Off → e.search_state ≡ Replacing → DoesReplace key
+pub each-replaces : (P : Editor → Type 0) (d : Data) (e : Editor) (key : Key) → e.pasted ≡ None → e.prompt ≡ prompts.Off → e.search_state ≡ Replacing → e.read_only ≡ false → DoesReplace key
     → ((typing : Typing) → P (as_left key (with_typing (cleared e) typing)))
     → ((typing : Typing) → P (as_left key (with_typing (after_replacing d (cleared e)) typing)))
     → P (as_left key (after_replacing_all d (cleared e))) → P (after_key d None e key)
-each-replaces P d e key settled unasked shown (inl enter) nothing one all =
+each-replaces P d e key settled unasked shown writes (inl enter) nothing one all =
     let was = cleared e in
     let put = only_paste e.typing in
     subst P (sym (entered d e key settled unasked shown enter))
@@ -70,9 +72,9 @@ each-replaces P d e key settled unasked shown (inl enter) nothing one all =
       | true ↦ one put
       | false ↦ nothing put
     ])
-each-replaces P d e key settled unasked shown (inr is) nothing one all =
+each-replaces P d e key settled unasked shown writes (inr is) nothing one all =
     subst (λ k. P (as_left k (after_replacing_all d (cleared e))) → P (after_key d None e k)) (sym is)
-    (λ h. subst P (sym (replaced-on d e settled unasked shown)) h) all
+    (λ h. subst P (sym (replaced-on d e settled unasked shown writes)) h) all
 
 -- ---- a stretch of the text gives way
 
@@ -313,7 +315,7 @@ replace-replaces-all d e h =
     let new = swapped e.at e.content.text e.replacement (matches_on d e) in
     let order = all-order d e h in
     let inside = (all-ends d e h).0 in
-    subst (ReplacesMatches d e) (sym (replaced-on d e h.settled h.unasked h.shown))
+    subst (ReplacesMatches d e) (sym (replaced-on d e h.settled h.unasked h.shown h.writes))
     (record {
       spans = matches_on d e;
       are = are-matches d e h;
@@ -324,6 +326,6 @@ replace-replaces-all d e h =
 pub same-letters-stay : SameLettersStay
 same-letters-stay d e key h does same =
     let was = cleared e in
-    each-replaces (λ (new : Editor). spelt d new.content.text ≡ spelt d e.content.text) d e key h.settled h.unasked h.shown does (λ typing. refl)
+    each-replaces (λ (new : Editor). spelt d new.content.text ≡ spelt d e.content.text) d e key h.settled h.unasked h.shown h.writes does (λ typing. refl)
     (λ typing. one-same d e h same (fits e.content.text e.at (match_stop d e) e.replacement))
     (all-same d e h same (fits e.content.text e.at (last_stop e.at (matches_on d e)) (swapped e.at e.content.text e.replacement (matches_on d e))))

@@ -13,7 +13,7 @@ use Rattle.bx_editor.specs.declared.message.Message.TheVariants.{FromEnd, FromSt
 use Rattle.bx_editor.specs.declared.search_state.SearchState.{SearchState}
 use Rattle.bx_editor.specs.declared.search_state.SearchState.TheVariants.{Off, Begun, Typed, WithBegun, WithTyped, Replacing}
 use Rattle.bx_editor.specs.Editor.{Editor, rows, cleared}
-use Rattle.bx_editor.specs.Effects.{Before, before}
+use Rattle.bx_editor.specs.Before.{Before, before}
 use Rattle.bx_editor.specs.Keys.{after_any}
 use Rattle.bx_editor.specs.Search.{after_find, after_find_back, backward, forward, landed, match_or, next_or_start, not_found, reading, sought}
 use Rattle.bx_editor.specs.Origin.{is_queried}
@@ -65,6 +65,8 @@ on-find d e was prompts.Off Replacing P unasked on h = absurd (cc on)
 on-find d e was prompts.Line search_state P unasked on h = absurd (cc unasked)
 on-find d e was prompts.Name search_state P unasked on h = absurd (cc unasked)
 on-find d e was prompts.Code search_state P unasked on h = absurd (cc unasked)
+on-find d e was prompts.File search_state P unasked on h = absurd (cc unasked)
+on-find d e was prompts.Overwrite search_state P unasked on h = absurd (cc unasked)
 
 on-find-back : (d : Data) (e : Editor) (was : Before) (prompt : Prompt) (search_state : SearchState) (P : Editor → Type 0) → prompt ≡ prompts.Off → is_queried search_state ≡ true
     → P (after_find_back d (cleared e)) → P (after_any d None was prompt search_state (cleared e) FindBack)
@@ -77,6 +79,8 @@ on-find-back d e was prompts.Off Replacing P unasked on h = absurd (cc on)
 on-find-back d e was prompts.Line search_state P unasked on h = absurd (cc unasked)
 on-find-back d e was prompts.Name search_state P unasked on h = absurd (cc unasked)
 on-find-back d e was prompts.Code search_state P unasked on h = absurd (cc unasked)
+on-find-back d e was prompts.File search_state P unasked on h = absurd (cc unasked)
+on-find-back d e was prompts.Overwrite search_state P unasked on h = absurd (cc unasked)
 
 pub find-goes-to-next : FindGoesToNext
 find-goes-to-next d e seeks =
@@ -86,8 +90,8 @@ find-goes-to-next d e seeks =
     let x = next_or_start d e in
     subst (GoesNext d e) (sym (any-key d None e Find seeks.settled refl))
     (on-find d e (before e) e.prompt e.search_state (GoesNext d e) seeks.unasked seeks.on
-    (next-of d e (forward d r (rows d e) text x ls) (first_from d r ls text x) (first_from d r ls text 0) (first_is d r ls text x seeks.text)
-    (first_is d r ls text 0 seeks.text) (forward-some d r (rows d e) text x ls seeks.letters)))
+    (next-of d e (forward d r (rows d e) text x e.query ls) (first_from d r ls text x) (first_from d r ls text 0) (first_is d r ls text x seeks.text)
+    (first_is d r ls text 0 seeks.text) (forward-some d r (rows d e) text x e.query ls seeks.letters)))
 
 pub find-back-goes-to-previous : FindBackGoesToPrevious
 find-back-goes-to-previous d e seeks =
@@ -97,5 +101,5 @@ find-back-goes-to-previous d e seeks =
     let n = length text in
     subst (GoesBack d e) (sym (any-key d None e FindBack seeks.settled refl))
     (on-find-back d e (before e) e.prompt e.search_state (GoesBack d e) seeks.unasked seeks.on
-    (previous-of d e (backward d r (rows d e) text e.place ls) (last_before d r ls text e.place) (last_before d r ls text n)
-    (last_is d r ls text e.place seeks.text) (last_is d r ls text n seeks.text) (backward-some d r (rows d e) text e.place ls seeks.letters)))
+    (previous-of d e (backward d r (rows d e) text e.place e.query ls) (last_before d r ls text e.place) (last_before d r ls text n)
+    (last_is d r ls text e.place seeks.text) (last_is d r ls text n seeks.text) (backward-some d r (rows d e) text e.place e.query ls seeks.letters)))

@@ -6,7 +6,7 @@ use Rattle.bx_keys.specs.declared.key.Key.TheVariants.{Insert, Repaint}
 use Rattle.bx_store.specs.declared.store.StoreFault.{StoreFault}
 use Rattle.bx_ucd.specs.Data.{Data}
 use Rattle.bx_editor.specs.declared.message.Message.TheVariants.{TextFull}
-use Rattle.bx_editor.specs.Editor.{Editor, with_insertion, with_typing}
+use Rattle.bx_editor.specs.Editor.{Editor, unpressed, with_insertion, with_typing}
 use Rattle.bx_editor.specs.Keys.{after_in_paste, after_key, after_press, after_user, ends_paste}
 use Rattle.bx_editor.specs.Putting.{ended_with, paste_ended, without_paste, has_room, put_in, with_selection_replaced}
 use Rattle.bx_editor.specs.Region.{is_selection}
@@ -63,9 +63,9 @@ pub ends-first : (d : Data) (fault : Option StoreFault) (e : Editor) (key : Key)
     → after_key d fault e key ≡ after_key d fault (paste_ended d e) key
 ends-first d fault e =
     each-key d fault e (λ k new. ends_paste k ≡ true → new ≡ after_key d fault (paste_ended d e) k)
-    (λ height width ends. absurd (cc ends)) (λ notice ends. absurd (cc ends)) (
+    (λ height width ends. absurd (cc ends)) (λ notice ends. absurd (cc ends)) (λ ends. absurd (cc ends)) (
       λ ends. absurd (cc ends),
-      λ ends. ap (λ (x : Editor). with_typing x typings.Off) (sym (none-ended d (paste_ended d e) (over d e))),
+      λ ends. ap (λ (x : Editor). unpressed (with_typing x typings.Off)) (sym (none-ended d (paste_ended d e) (over d e))),
     )
     (λ k small ends.
     press-ends d fault e k e.pasted refl ends

@@ -1,6 +1,6 @@
 -- Worked examples, each from a law of pastes alone.
 use Rattle.std.proofs.Common.{◌≡◌, ℕ, ◌<◌, ◌≤◌, true, false, List, [], ◌∷◌, ◌++◌, map, refl, ap, arith}
-use Rattle.std.specs.Prelude.{◌≢◌, codes, Option, None}
+use Rattle.std.specs.Prelude.{◌≢◌, ◌==◌, ◌&&◌, not, codes, Option, None}
 use Rattle.std.specs.Fmt.{digits}
 use Rattle.std.proofs.lemmas.List.Elements.{All-cons, All-nil}
 use Rattle.ucd_case.proofs.Computing.{ucd_case}
@@ -9,7 +9,7 @@ use Rattle.unicode_segmentation.proofs.Computing.{unicode_segmentation}
 use Rattle.unicode_width.proofs.Computing.{unicode_width}
 use Rattle.bx_common.specs.declared.base.Base.TheVariants.{Auto}
 use Rattle.bx_keys.specs.declared.key.Key.{Key}
-use Rattle.bx_keys.specs.declared.key.Key.TheVariants.{Find, Forward, Insert, PasteEnd, PasteStart, Right, Select, UndoRun}
+use Rattle.bx_keys.specs.declared.key.Key.TheVariants.{Cancel, Find, Forward, Insert, PasteEnd, PasteStart, Right, Select, UndoRun}
 use Rattle.bx_store.specs.declared.store.StoreFault.{StoreFault}
 use Rattle.bx_editor.specs.declared.search_state.SearchState.TheVariants.{Off}
 use Rattle.bx_editor.specs.Editor.{Editor}
@@ -46,12 +46,11 @@ after_a_letter_it_goes_on law over =
 abbrev typed : List Key → List (Key × Option StoreFault)
 typed keys = map (λ key. (key, None)) keys
 
--- the paste goes into the text from its line end on
-pub its_line_end_ends_the_search : PastesAreAlone
-    → (after (start (codes "ab ab") 2 40) (Find ∷ PasteStart ∷ letters (codes "b\n"))).search_state ≡ Off
+pub it_begins_outside_a_search : PastesAreAlone
+    → (after (start (codes "ab ab") 2 40) (Find ∷ Cancel ∷ PasteStart ∷ letters (codes "b\n"))).search_state ≡ Off
 unfolding unicode_segmentation unicode_width digits unicode_normalization ucd_case
-its_line_end_ends_the_search law =
-    (law tables (codes "ab ab") 2 40 Auto (typed (Find ∷ PasteStart ∷ letters (codes "b\n"))) (λ none. cc none)).unsought
+it_begins_outside_a_search law =
+    (law tables (codes "ab ab") 2 40 Auto (typed (Find ∷ Cancel ∷ PasteStart ∷ letters (codes "b\n"))) (λ none. cc none)).unsought
 
 -- ---- what it puts in
 
@@ -63,7 +62,7 @@ pub a_selection_comes_back : PasteComesBack
     → Has (codes "abcd") 2 (after two_selected (PasteStart ∷ letters (codes "xy") ++ PasteEnd ∷ UndoRun ∷ []))
 unfolding unicode_segmentation unicode_width digits
 a_selection_comes_back law =
-    let back = (law tables two_selected (codes "xy") (record { unasked = refl; unsought = refl })).with_room refl (λ none. cc none) refl in
+    let back = (law tables two_selected (codes "xy") (record { unasked = refl; unsought = refl }) refl).with_room refl (λ none. cc none) refl in
     (back.text_is, back.unmarked.place_is)
 
 pub a_pasted_line_end_comes_back : PasteComesBack
@@ -72,7 +71,7 @@ unfolding unicode_segmentation unicode_width digits
 a_pasted_line_end_comes_back law =
     let more : 0 < 1 = omega arith in
     let inside = after (start (codes "xy") 2 40) (Forward ∷ []) in
-    ((law tables inside (codes "b\nc") (record { unasked = refl; unsought = refl })).back more).text_is
+    ((law tables inside (codes "b\nc") (record { unasked = refl; unsought = refl }) refl).back more).text_is
 
 -- between a and b
 abbrev between : Editor
@@ -83,6 +82,8 @@ unfolding unicode_segmentation unicode_width digits
 two_letters_as_if_typed law =
     let Plain = λ (c : ℕ). pastes_crlf tables (codes "ab") c ≡ false in
     let inside : 1 ≤ 2 = omega arith in
-    let same = law tables between (codes "xy") (record { unasked = refl; unsought = refl }) refl inside
-    (All-cons Plain 0x78 (0x79 ∷ []) refl (All-cons Plain 0x79 [] refl (All-nil Plain))) refl (refl, (refl, tt)) in
+    let IsTyped = λ (c : ℕ). ((c == 0x9) && not (between.tab_width == 0)) ≡ false in
+    let same = law tables between (codes "xy") (record { unasked = refl; unsought = refl }) refl refl inside
+    (All-cons Plain 0x78 (0x79 ∷ []) refl (All-cons Plain 0x79 [] refl (All-nil Plain)))
+    (All-cons IsTyped 0x78 (0x79 ∷ []) refl (All-cons IsTyped 0x79 [] refl (All-nil IsTyped))) refl (refl, (refl, tt)) in
     (same.text_is, same.place_is)

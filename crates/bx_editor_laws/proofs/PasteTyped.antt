@@ -16,12 +16,13 @@ use Rattle.bx_editor.specs.declared.undo_groups.typing.Kind.{Kind}
 use Rattle.bx_editor.specs.declared.undo_groups.typing.Typing.TheVariants as typings
 use Rattle.bx_common.specs.declared.base.Base.{Base}
 use Rattle.bx_ucd.specs.Data.{Data}
+use Rattle.bx_view.specs.declared.moves.Goal.{Goal}
 use Rattle.bx_editor.specs.declared.questions.answers.Prompt.TheVariants as prompts
 use Rattle.bx_editor.specs.declared.message.Message.TheVariants.{Pasting, TextFull}
 use Rattle.bx_editor.specs.declared.search_state.SearchState.TheVariants as search_states
 use Rattle.bx_editor.specs.declared.cursor.Soft.{Soft}
 use Rattle.bx_editor.specs.declared.cursor.Soft.TheVariants.{Off, Fresh, Old}
-use Rattle.bx_editor.specs.Editor.{Editor, cleared, place_after, with_insertion, with_typing}
+use Rattle.bx_editor.specs.Editor.{Editor, cleared, place_after, unpressed, with_insertion, with_typing}
 use Rattle.bx_editor.specs.Keys.{after_key, as_left}
 use Rattle.bx_editor.specs.Functions.{after_keys}
 use Rattle.bx_editor.specs.PasteLaws.{after_paste, brought, place_between, written}
@@ -30,19 +31,19 @@ use Rattle.bx_editor.specs.Putting.{only_paste, put_in, with_selection_replaced}
 use Rattle.bx_editor.specs.Region.{is_empty, region, aged, is_selection, is_soft}
 use Rattle.bx_editor_laws.specs.PastingLaws.{EndAtTheirPlaces, IsFree, PasteComesBack, PasteIsTyping}
 use Rattle.bx_editor.proofs.OnePaste.{paste-is-one-edit}
-use Rattle.bx_editor_laws.proofs.OneRun.{insert-is, no-selection, paste-is-a-run}
+use Rattle.bx_editor_laws.proofs.OneRun.{character-is, insert-is, no-selection, paste-is-a-run, start-is}
 
 -- ---- one UndoRun takes it back
 
 grown : (d : Data) (e : Editor) (cs : List ℕ) (selected : Bool) → is_selection e ≡ selected → IsFree e → e.pasted ≡ None
-    → brought d e.content.text [] cs ≢ []
+    → e.read_only ≡ false → brought d e.content.text [] cs ≢ []
     → has_room e (brought d e.content.text [] cs) ≡ true → length e.content.past < length (after_paste d e cs).content.past
-grown d e cs true is free settled some room =
-    let content = ((paste-is-one-edit d e cs free.unasked free.unsought settled).put some room).instead is in
+grown d e cs true is free settled writes some room =
+    let content = ((paste-is-one-edit d e cs free.unasked free.unsought settled writes).put some room).instead is in
     let size : length (after_paste d e cs).content.past ≡ suc (suc (length e.content.past)) = ap (λ (t : Edited). length t.past) content in
     omega (arith, size)
-grown d e cs false is free settled some room =
-    let content = ((paste-is-one-edit d e cs free.unasked free.unsought settled).put some room).alone is in
+grown d e cs false is free settled writes some room =
+    let content = ((paste-is-one-edit d e cs free.unasked free.unsought settled writes).put some room).alone is in
     let size : length (after_paste d e cs).content.past ≡ suc (length e.content.past) = ap (λ (t : Edited). length t.past) content in
     omega (arith, size)
 
@@ -52,22 +53,22 @@ some-bytes false c more none =
     let size : length (encode_utf8 c ++ more) ≡ 0 = ap length none in
     omega (arith, size, length-append (encode_utf8 c) more, encode_utf8_nonempty c)
 
-put-in-grows : (d : Data) (e : Editor) (cs : List ℕ) → IsFree e → e.pasted ≡ None → cs ≢ []
+put-in-grows : (d : Data) (e : Editor) (cs : List ℕ) → IsFree e → e.pasted ≡ None → e.read_only ≡ false → cs ≢ []
     → has_room e (written d e.content.text cs) ≡ true
     → length e.content.past < length (after_paste d e cs).content.past
-put-in-grows d e [] free settled some room = absurd (some refl)
-put-in-grows d e (c ∷ cs) free settled some room =
+put-in-grows d e [] free settled writes some room = absurd (some refl)
+put-in-grows d e (c ∷ cs) free settled writes some room =
     let text = e.content.text in
-    let all = (paste-is-one-edit d e (c ∷ cs) free.unasked free.unsought settled).all in
+    let all = (paste-is-one-edit d e (c ∷ cs) free.unasked free.unsought settled writes).all in
     let fits = all.same_room ∙ room in
     let list-some : brought d text [] (c ∷ cs) ≢ [] =
     λ none. some-bytes (pastes_crlf d text c) c (written d text cs) (sym (all.whole fits) ∙ none) in
-    grown d e (c ∷ cs) (is_selection e) refl free settled list-some fits
+    grown d e (c ∷ cs) (is_selection e) refl free settled writes list-some fits
 
 pub paste-comes-back : PasteComesBack
-paste-comes-back d e cs free = record {
-  back = paste-is-a-run d e cs free.unasked free.unsought;
-  with_room = λ settled some room. paste-is-a-run d e cs free.unasked free.unsought (put-in-grows d e cs free settled some room);
+paste-comes-back d e cs free writes = record {
+  back = paste-is-a-run d e cs free.unasked free.unsought writes;
+  with_room = λ settled some room. paste-is-a-run d e cs free.unasked free.unsought writes (put-in-grows d e cs free settled writes some room);
 }
 
 -- ---- what is put in behind what was put in
@@ -155,6 +156,8 @@ module _ (d : Data) (e : Editor) (c : ℕ) where
     pub soft : x.soft ≡ Off
     pub base : x.base ≡ e.base
     pub width : x.width ≡ e.width
+    pub looked : x.read_only ≡ e.read_only
+    pub tabs : x.tab_width ≡ e.tab_width
 
   goes : (selected : Bool) → IsFree e → e.pasted ≡ None → Goes selected (shaped true selected)
   goes true free settled = record {
@@ -164,6 +167,8 @@ module _ (d : Data) (e : Editor) (c : ℕ) where
     soft = refl;
     base = refl;
     width = refl;
+    looked = refl;
+    tabs = refl;
   }
   goes false free settled = record {
     put = record { text_is = refl; place_is = refl };
@@ -172,12 +177,16 @@ module _ (d : Data) (e : Editor) (c : ℕ) where
     soft = refl;
     base = refl;
     width = refl;
+    looked = refl;
+    tabs = refl;
   }
 
-  one-typed : IsFree e → e.pasted ≡ None → has_room e new ≡ true → Goes (is_selection e) (after_key d None e (Insert c))
-  one-typed free settled room =
+  one-typed : IsFree e → e.pasted ≡ None → e.read_only ≡ false → ((c == 0x9) && not (e.tab_width == 0)) ≡ false → has_room e new ≡ true → Goes (is_selection e) (after_key d None e (Insert c))
+  one-typed free settled writes plain room =
       subst (Goes (is_selection e))
-      (sym (insert-is d e c settled free.unasked free.unsought ∙ ap (λ r. shaped r (is_selection e)) room))
+      (sym (insert-is d e c settled free.unasked free.unsought writes
+      ∙ ap (as_left (Insert c)) (character-is d e.typing was c kind plain refl)
+      ∙ ap (λ r. shaped r (is_selection e)) room))
       (goes (is_selection e) free settled)
 
 -- ---- characters typed one by one
@@ -218,41 +227,45 @@ room-on d e x selected one other inside room put none =
     (omega (arith, size, size-bare e selected inside))
     (subst (λ n. nat_le (length e.content.text - ((gap e selected).1 - (gap e selected).0) + n) largest_text ≡ true) (length-append one other) room)
 
-all-typed : (d : Data) (cs : List ℕ) (c : ℕ) (e : Editor) → IsFree e → e.pasted ≡ None
+-- no tab among them becomes spaces
+abbrev Plain : ℕ → ℕ → Type 0
+Plain width c = ((c == 0x9) && not (width == 0)) ≡ false
+
+all-typed : (d : Data) (cs : List ℕ) (c : ℕ) (e : Editor) → IsFree e → e.pasted ≡ None → e.read_only ≡ false → All (Plain e.tab_width) (c ∷ cs)
     → (is_selection e ≡ true → (region e).1 ≤ length e.content.text)
     → has_room e (encode_utf8_all (c ∷ cs)) ≡ true → EndAtTheirPlaces d e (c ∷ cs)
     → IsPut d e (is_selection e) (encode_utf8_all (c ∷ cs)) (after_keys d None e (map Insert (c ∷ cs)))
-all-typed d [] c e free settled inside room ends =
-    let one = one-typed d e c free settled (subst (λ bytes. has_room e bytes ≡ true) (append-nil (encode_utf8 c)) room) in
+all-typed d [] c e free settled writes plain inside room ends =
+    let one = one-typed d e c free settled writes (All-head (Plain e.tab_width) c [] plain) (subst (λ bytes. has_room e bytes ≡ true) (append-nil (encode_utf8 c)) room) in
     subst (λ bytes. IsPut d e (is_selection e) bytes (after_key d None e (Insert c))) (sym (append-nil (encode_utf8 c))) one.put
-all-typed d (c' ∷ cs) c e free settled inside room ends =
+all-typed d (c' ∷ cs) c e free settled writes plain inside room ends =
     let new = encode_utf8 c in
     let rest = encode_utf8_all (c' ∷ cs) in
     let selected = is_selection e in
     let x = after_key d None e (Insert c) in
-    let first = one-typed d e c free settled (fewer-fit (length e.content.text) (gap e selected).0 (gap e selected).1 (length (new ++ rest)) (length new) largest_text
+    let first = one-typed d e c free settled writes (All-head (Plain e.tab_width) c (c' ∷ cs) plain) (fewer-fit (length e.content.text) (gap e selected).0 (gap e selected).1 (length (new ++ rest)) (length new) largest_text
     room (omega (arith, length-append new rest))) in
     let none : is_selection x ≡ false = no-selection x first.soft in
     let roomy = room-on d e x selected new rest inside room first.put none in
-    let more = all-typed d cs c' x first.free first.settled (λ is. (let no = sym none ∙ is in absurd (cc no))) roomy ends.1 in
+    let more = all-typed d cs c' x first.free first.settled (first.looked ∙ writes)
+    (subst (λ w. All (Plain w) (c' ∷ cs)) (sym first.tabs) (All-tail (Plain e.tab_width) c (c' ∷ cs) plain)) (λ is. (let no = sym none ∙ is in absurd (cc no))) roomy ends.1 in
     put-on d e x (after_keys d None x (map Insert (c' ∷ cs))) selected new rest first.put ends.0 first.base first.width
     (subst (λ b. IsPut d x b rest (after_keys d None x (map Insert (c' ∷ cs)))) none more)
 
 -- ---- the same characters pasted
 
 -- the editor while a paste is under way, and once it is over
-abbrev in_paste : Editor → List ℕ → Bool → Option ℕ → Soft → Editor
+abbrev in_paste : Editor → List ℕ → Bool → Option Goal → Soft → Editor
 in_paste e list again goal soft =
-    record e { pasted = Some list; typing = typings.Paste; message = Some Pasting; quit_before = again; goal = goal; soft = soft }
+    record e { pasted = Some list; typing = typings.Paste; message = Some Pasting; quit_before = again; goal = goal; soft = soft; clicks = None; pressed = None }
 
-abbrev over : Editor → Bool → Option ℕ → Soft → Editor
-over e again goal soft = record e { pasted = None; typing = typings.Off; message = None; quit_before = again; goal = goal; soft = soft }
+abbrev over : Editor → Bool → Option Goal → Soft → Editor
+over e again goal soft = record e { pasted = None; typing = typings.Off; message = None; quit_before = again; goal = goal; soft = soft; clicks = None; pressed = None }
 
-begun : (e : Editor) → IsFree e → e.pasted ≡ None → after_paste_start e ≡ in_paste e [] e.quit_before e.goal e.soft
-begun e free none =
-    ap (λ a. with_typing (paste_begun a e.search_state e.pasted e) typings.Paste) free.unasked
-    ∙ ap (λ s. with_typing (paste_begun prompts.Off s e.pasted e) typings.Paste) free.unsought
-    ∙ ap (λ p. with_typing (paste_begun prompts.Off search_states.Off p e) typings.Paste) none
+begun : (e : Editor) → IsFree e → e.pasted ≡ None → e.read_only ≡ false → after_paste_start e ≡ in_paste e [] e.quit_before e.goal e.soft
+begun e free none writes =
+    start-is e free.unasked free.unsought writes
+    ∙ ap (λ p. unpressed (with_typing (paste_begun prompts.Off search_states.Off p e) typings.Paste)) none
 
 aged-soft : (soft : Soft) → is_soft (aged soft) ≡ is_soft soft
 aged-soft Off = refl
@@ -265,19 +278,19 @@ some-long (b ∷ bs) some = ne_eqb (length (b ∷ bs)) 0 (λ none. omega (arith,
 
 module _ (d : Data) (e : Editor) where
   letters : (P : List ℕ → Editor → Type 0)
-      → ((list : List ℕ) (again : Bool) (goal : Option ℕ) (soft : Soft) → is_soft soft ≡ is_soft e.soft → P list (after_paste_end d (in_paste e list again goal soft)))
-      → (cs list : List ℕ) (again : Bool) (goal : Option ℕ) (soft : Soft) → is_soft soft ≡ is_soft e.soft
+      → ((list : List ℕ) (again : Bool) (goal : Option Goal) (soft : Soft) → is_soft soft ≡ is_soft e.soft → P list (after_paste_end d (in_paste e list again goal soft)))
+      → (cs list : List ℕ) (again : Bool) (goal : Option Goal) (soft : Soft) → is_soft soft ≡ is_soft e.soft
       → P (brought d e.content.text list cs) (after_keys d None (in_paste e list again goal soft) (map Insert cs ++ PasteEnd ∷ []))
   letters P end [] list again goal soft same = end list again goal soft same
   letters P end (c ∷ cs) list again goal soft same =
       letters P end cs (longer (pastes_crlf d e.content.text c) list c) false None (aged soft) (aged-soft soft ∙ same)
 
-  put-by : (list : List ℕ) (again : Bool) (goal : Option ℕ) (soft : Soft) (selected : Bool) → let was = over e again goal soft in
-      IsPut d e selected list (with_typing (if selected then with_selection_replaced d was list else with_insertion d was list false) typings.Off)
+  put-by : (list : List ℕ) (again : Bool) (goal : Option Goal) (soft : Soft) (selected : Bool) → let was = over e again goal soft in
+      IsPut d e selected list (unpressed (with_typing (if selected then with_selection_replaced d was list else with_insertion d was list false) typings.Off))
   put-by list again goal soft true = record { text_is = refl; place_is = refl }
   put-by list again goal soft false = record { text_is = refl; place_is = refl }
 
-  ended : (list : List ℕ) (again : Bool) (goal : Option ℕ) (soft : Soft) → is_soft soft ≡ is_soft e.soft → list ≢ []
+  ended : (list : List ℕ) (again : Bool) (goal : Option Goal) (soft : Soft) → is_soft soft ≡ is_soft e.soft → list ≢ []
       → has_room e list ≡ true
       → IsPut d e (is_selection e) list (after_paste_end d (in_paste e list again goal soft))
   ended list again goal soft same some room =
@@ -288,9 +301,9 @@ module _ (d : Data) (e : Editor) where
       let selection : is_selection was ≡ is_selection e = ap (λ s. s && not (is_empty (region e))) same in
       let roomy : has_room was list ≡ true =
       ap (λ (s : Bool). (let part = if s then region e else (e.place, e.place) in fits e.content.text part.0 part.1 list)) selection ∙ room in
-      subst (λ (b : Bool). IsPut d e (is_selection e) list (with_typing (if b then was else put_in d was list false) typings.Off)) (sym (some-long list some))
-      (subst (λ (r : Bool). IsPut d e (is_selection e) list (with_typing (if r then (if is_selection was then two else one) else full) typings.Off)) (sym roomy)
-      (subst (λ (s : Bool). IsPut d e (is_selection e) list (with_typing (if s then two else one) typings.Off)) (sym selection)
+      subst (λ (b : Bool). IsPut d e (is_selection e) list (unpressed (with_typing (if b then was else put_in d was list false) typings.Off))) (sym (some-long list some))
+      (subst (λ (r : Bool). IsPut d e (is_selection e) list (unpressed (with_typing (if r then (if is_selection was then two else one) else full) typings.Off))) (sym roomy)
+      (subst (λ (s : Bool). IsPut d e (is_selection e) list (unpressed (with_typing (if s then two else one) typings.Off))) (sym selection)
       (put-by list again goal soft (is_selection e))))
 
 -- nothing is pasted as CR LF, and all has room
@@ -317,11 +330,11 @@ few-by size start stop new limit fit = grind (arith, nat_tests, fit)
 all-few : (e : Editor) (list : List ℕ) → has_room e list ≡ true → length list ≤ largest_text
 all-few e list room = let part = gap e (is_selection e) in few-by (length e.content.text) part.0 part.1 (length list) largest_text room
 
-pasted : (d : Data) (e : Editor) (cs : List ℕ) → IsFree e → e.pasted ≡ None → brought d e.content.text [] cs ≢ []
+pasted : (d : Data) (e : Editor) (cs : List ℕ) → IsFree e → e.pasted ≡ None → e.read_only ≡ false → brought d e.content.text [] cs ≢ []
     → has_room e (brought d e.content.text [] cs) ≡ true → IsPut d e (is_selection e) (brought d e.content.text [] cs) (after_paste d e cs)
-pasted d e cs free settled some room =
+pasted d e cs free settled writes some room =
     let P = λ (list : List ℕ) (x : Editor). list ≢ [] → has_room e list ≡ true → IsPut d e (is_selection e) list x in
-    subst (λ (x : Editor). P (brought d e.content.text [] cs) (after_keys d None x (map Insert cs ++ PasteEnd ∷ []))) (sym (begun e free settled))
+    subst (λ (x : Editor). P (brought d e.content.text [] cs) (after_keys d None x (map Insert cs ++ PasteEnd ∷ []))) (sym (begun e free settled writes))
     (letters d e P (ended d e) cs [] e.quit_before e.goal e.soft refl) some room
 
 -- ---- the law
@@ -332,13 +345,13 @@ some-all c cs none =
     omega (arith, size, length-append (encode_utf8 c) (encode_utf8_all cs), encode_utf8_nonempty c)
 
 pub paste-is-typing : PasteIsTyping
-paste-is-typing d e [] free settled inside plain room ends =
-    let stays = (paste-is-one-edit d e [] free.unasked free.unsought settled).empty refl in
+paste-is-typing d e [] free settled writes inside plain tabs room ends =
+    let stays = (paste-is-one-edit d e [] free.unasked free.unsought settled writes).empty refl in
     record { text_is = ap (λ (t : Edited). t.text) stays.content; place_is = stays.place }
-paste-is-typing d e (c ∷ cs) free settled inside plain room ends =
+paste-is-typing d e (c ∷ cs) free settled writes inside plain tabs room ends =
     let bytes = encode_utf8_all (c ∷ cs) in
     let list : brought d e.content.text [] (c ∷ cs) ≡ bytes = brought-all d e.content.text (c ∷ cs) [] plain (omega (arith, all-few e bytes room)) in
     let put = subst (λ xs. IsPut d e (is_selection e) xs (after_paste d e (c ∷ cs))) list
-    (pasted d e (c ∷ cs) free settled (λ none. some-all c cs (sym list ∙ none)) (subst (λ xs. has_room e xs ≡ true) (sym list) room)) in
-    let typed = all-typed d cs c e free settled (λ is. inside) room ends in
+    (pasted d e (c ∷ cs) free settled writes (λ none. some-all c cs (sym list ∙ none)) (subst (λ xs. has_room e xs ≡ true) (sym list) room)) in
+    let typed = all-typed d cs c e free settled writes tabs (λ is. inside) room ends in
     record { text_is = put.text_is ∙ sym typed.text_is; place_is = put.place_is ∙ sym typed.place_is }

@@ -1,6 +1,6 @@
 -- ErasePoint leaves all before the point, and all behind the place.
 use Rattle.std.proofs.Common.{◌≡◌, ℕ, zero, suc, ◌-◌, ◌≤◌, Bool, true, false, List, [], ◌∷◌, ◌++◌, length, take, drop, slice_range, chars, IsUtf8}
-use Rattle.std.proofs.Common.{refl, sym, ap, ap₂, ◌∙◌, arith, append-nil, length-append}
+use Rattle.std.proofs.Common.{refl, sym, ap, ◌∙◌, arith, append-nil, length-append}
 use Rattle.std.specs.Prelude.{◌==◌, encode_utf8, encode_utf8_all, None, if◌then◌else◌}
 use Rattle.std.proofs.lemmas.Bool.{eqb-true}
 use Rattle.std.proofs.lemmas.List.{take-append-drop}
@@ -16,16 +16,15 @@ use Rattle.bx_view.specs.Moves.{step_logical}
 use Rattle.bx_view.proofs.KeptPlaces.{text-places-kept}
 use Rattle.bx_view.proofs.TextPlaces.{place-between}
 use Rattle.bx_editor.specs.Editor.{Editor, cleared, rows, with_removal}
-use Rattle.bx_editor.specs.Erasing.{point_before, removed_on}
-use Rattle.bx_editor.specs.Effects.{before}
+use Rattle.bx_editor.specs.Erasing.{or_selection, point_before, removed_on, stop_before}
 use Rattle.bx_editor.specs.Region.{region}
 use Rattle.bx_editor.specs.declared.undo_groups.typing.Removal.TheVariants.{Erase}
 use Rattle.bx_editor.specs.declared.undo_groups.typing.Typing.{Typing}
 use Rattle.bx_editor.specs.undo_groups.Groups.{after_removal, goes_on_removing}
-use Rattle.bx_editor.specs.Keys.{after_any, after_key}
+use Rattle.bx_editor.specs.Keys.{after_key}
 use Rattle.bx_editor_laws.specs.WorkLaws.{ErasePointLeavesBeginning}
 use Rattle.bx_editor.proofs.StepOrder.{between-back}
-use Rattle.bx_editor.proofs.InSearch.{any-key, behind}
+use Rattle.bx_editor_laws.proofs.KeyEnds.{free-done}
 
 -- ---- where a point begins in a unit
 
@@ -56,7 +55,7 @@ removed-by d typing e start true same =
 removed-by d typing e start false other = ap (λ xs. xs ++ drop e.place e.content.text) (append-nil (take start e.content.text))
 
 pub erase-point-leaves-beginning : ErasePointLeavesBeginning
-erase-point-leaves-beginning d e has unasked off settled unselected place =
+erase-point-leaves-beginning d e has unasked off settled writes unselected unspaced place =
     let text = e.content.text in
     let was = cleared e in
     let some = side-some e.width has.columns in
@@ -69,8 +68,9 @@ erase-point-leaves-beginning d e has unasked off settled unselected place =
     let size : length (slice_range text unit e.place) ≡ e.place - unit = length-slice_range text unit e.place here.0 in
     let few = point-few d (slice_range text unit e.place) utf8 in
     let pressed : (after_key d None e ErasePoint).content.text ≡ take (point_before d e) text ++ drop e.place text =
-    ap (λ (new : Editor). new.content.text) (any-key d None e ErasePoint settled refl)
-    ∙ ap₂ (λ a s. (behind (after_any d None (before e) a s was ErasePoint)).content.text) unasked off
+    ap (λ (new : Editor). new.content.text) (free-done d None e ErasePoint settled refl refl unasked off writes)
+    ∙ ap (λ b. (or_selection d was (removed_on d e.typing Erase was (if b then stop_before d was else point_before d was) e.place)).content.text)
+    unspaced
     ∙ ap (λ b. (if b then with_removal d was (region e).0 (region e).1 false else removed_on d e.typing Erase was (point_before d e) e.place).content.text)
     unselected
     ∙ removed-by d e.typing was (point_before d e) (point_before d e == e.place) refl in

@@ -1,16 +1,16 @@
 -- Pointing at the picture: where it leads, and what is shown then.
-use Rattle.std.proofs.Common.{◌≡◌, ℕ, ◌+◌, ◌-◌, ◌≤◌, ◌<◌, nat_le, Bool, true, false, List, Option, None, refl, sym, ap, ap₂, subst, ◌∙◌}
+use Rattle.std.proofs.Common.{◌≡◌, ℕ, ◌+◌, ◌-◌, ◌≤◌, ◌<◌, nat_le, Bool, true, false, List, Option, Some, None, refl, sym, ap, ap₂, subst, ◌∙◌}
 use Rattle.std.proofs.Common.{arith, inl, inr, leb-true, if◌then◌else◌}
-use Rattle.std.specs.Prelude.{◌≢◌, ◌⊎◌}
+use Rattle.std.specs.Prelude.{◌≢◌, ◌⊎◌, ◌==◌, ◌&&◌, unwrap_or}
 use Rattle.std.proofs.lemmas.Bool.{le-leb}
-use Rattle.bx_keys.specs.declared.key.Key.TheVariants.{Point}
+use Rattle.std.proofs.lemmas.Bool.Decides.{nat_tests}
+use Rattle.bx_keys.specs.declared.key.Key.TheVariants.{Drag, Point}
 use Rattle.bx_ucd.specs.Data.{Data}
-use Rattle.bx_editor.specs.declared.questions.answers.Prompt.{Prompt}
-use Rattle.bx_editor.specs.declared.questions.answers.Prompt.TheVariants as prompts
-use Rattle.bx_editor.specs.declared.undo_groups.typing.Typing.TheVariants as typings
+use Rattle.bx_document.specs.Line.{line_of}
 use Rattle.bx_paragraph.proofs.Starts.{side-some}
 use Rattle.bx_view.specs.Top.{pointed_at, follow}
 use Rattle.bx_view.specs.TextRows.{TextRow, cell_of, first, row_at, row_of}
+use Rattle.bx_view.specs.Words.{stretch_at}
 use Rattle.bx_view.proofs.CellColumns.{cell-inside}
 use Rattle.bx_view.proofs.LeastMove.{falls-own}
 use Rattle.bx_view.proofs.TextPlaces.{place-in-window}
@@ -19,59 +19,40 @@ use Rattle.bx_view_laws.specs.Pointed.{ShowsUnit, TopStays, picture_row}
 use Rattle.bx_view_laws.specs.Pointed as pointed
 use Rattle.bx_view_laws.proofs.PointedTop as tops
 use Rattle.bx_view_laws.proofs.PointedUnits.{own-cells-stay, units-are-taken}
-use Rattle.bx_editor.specs.declared.search_state.SearchState.{SearchState}
-use Rattle.bx_editor.specs.declared.search_state.SearchState.TheVariants.{Off, Begun, Typed, WithBegun, WithTyped, Replacing}
+use Rattle.bx_editor.specs.declared.clicks.Clicks.{Clicks}
+use Rattle.bx_editor.specs.declared.clicks.Extent.{Extent}
+use Rattle.bx_editor.specs.declared.clicks.Extent.TheVariants as extents
+use Rattle.bx_editor.specs.declared.clicks.Pressed.{Pressed}
 use Rattle.bx_editor.specs.declared.cursor.Soft.{Soft}
 use Rattle.bx_editor.specs.declared.cursor.Soft.TheVariants as softness
-use Rattle.bx_editor.specs.Editor.{Editor, cleared, rows, text_height, with_place}
-use Rattle.bx_editor.specs.Functions.{HasRows}
-use Rattle.bx_editor.specs.Effects.{Before, before, pointed_place}
-use Rattle.bx_editor.specs.Keys.{after_any, after_key}
-use Rattle.bx_editor.specs.Picture.{blank_picture, next_top, text_picture, scrolled}
-use Rattle.bx_editor.specs.Prompts.{HasOnePrompt}
-use Rattle.bx_editor.specs.Region.{aged, mark_left, soft_left, unselected}
+use Rattle.bx_editor.specs.declared.questions.answers.Prompt.TheVariants as prompts
+use Rattle.bx_editor.specs.declared.search_state.SearchState.TheVariants.{Off}
+use Rattle.bx_editor.specs.declared.undo_groups.typing.Typing.TheVariants as typings
+use Rattle.bx_editor.specs.Asking.{without_prompt}
+use Rattle.bx_editor.specs.Editor.{Editor, cleared, rows, text_height}
+use Rattle.bx_editor.specs.Functions.{HasRows, after_keys}
+use Rattle.bx_editor.specs.Keys.{after_key, as_left}
+use Rattle.bx_editor.specs.Picture.{blank_picture, next_top, picture, text_picture, scrolled, with_cursor}
+use Rattle.bx_editor.specs.Pointing.{after_drag, clicking, further, part_at, pointed_place, press_extent, pressed_at, pressing, pressing_with, selecting_part}
+use Rattle.bx_editor.specs.Region.{aged, is_empty, mark_left, soft_left, unselected}
+use Rattle.bx_editor.specs.Status.{input_column}
 use Rattle.bx_editor_laws.specs.WorkLaws.{IsFullEnd, own_row}
-use Rattle.bx_editor_laws.specs.PointingLaws.{after_point, cursor_column, cursor_row, PointStays, PointTakesUnits, PointTwiceIsOnce, StandsAt}
-use Rattle.bx_editor.proofs.InSearch.{any-key, behind}
-use Rattle.bx_editor.proofs.TopOnce.{top-stays}
+use Rattle.bx_editor_laws.specs.SelectionLaws.{IsFirstPress}
+use Rattle.bx_editor_laws.specs.PointingLaws.{cursor_column, cursor_row, presses, IsBare, IsSelected, PointStays, PointTakesUnits, PressesTake, StandsAt, ThreePresses}
+use Rattle.bx_editor.proofs.OnItsCell.{in_text}
+use Rattle.bx_editor_laws.proofs.KeyEnds.{ended-key, free-key}
 
 -- ---- the key
 
--- nothing is asked, and the search is in this state
-abbrev ended : SearchState → Editor → Editor
-ended search_state e = record e { prompt = prompts.Off; search_state = search_state }
-
--- the cursor goes to the place that is pointed at
-abbrev went : Data → Editor → ℕ → ℕ → Editor
-went d e row column = with_place (unselected e) (pointed_place d e row column)
-
-point-free : (d : Data) (was : Before) (search_state : SearchState) (e : Editor) (row column : ℕ) → e.prompt ≡ prompts.Off → e.search_state ≡ search_state
-    → after_any d None was prompts.Off search_state e (Point row column) ≡ ended Off (went d e row column)
-point-free d was Off e row column unasked unsought = ap₂ (λ a s. record (went d e row column) { prompt = a; search_state = s }) unasked unsought
-point-free d was Begun e row column unasked on = ap (λ a. record (went d e row column) { prompt = a; search_state = Off }) unasked
-point-free d was Typed e row column unasked on = ap (λ a. record (went d e row column) { prompt = a; search_state = Off }) unasked
-point-free d was WithBegun e row column unasked on = ap (λ a. record (went d e row column) { prompt = a; search_state = Off }) unasked
-point-free d was WithTyped e row column unasked on = ap (λ a. record (went d e row column) { prompt = a; search_state = Off }) unasked
-point-free d was Replacing e row column unasked on = ap (λ a. record (went d e row column) { prompt = a; search_state = Off }) unasked
-
--- it ends a question alone, or a search
-abbrev IsPointed : Data → Editor → ℕ → ℕ → Editor → Type 0
-IsPointed d e row column new = (s : SearchState) × (new ≡ ended s (went d e row column)) × (HasOnePrompt e → s ≡ Off)
-
-point-any : (d : Data) (was : Before) (prompt : Prompt) (search_state : SearchState) (e : Editor) (row column : ℕ) → e.prompt ≡ prompt → e.search_state ≡ search_state
-    → IsPointed d e row column (after_any d None was prompt search_state e (Point row column))
-point-any d was prompts.Off search_state e row column unasked is = (Off, point-free d was search_state e row column unasked is, λ one. refl)
-point-any d was prompts.Line search_state e row column asked is = (e.search_state, refl, λ one. one (λ off. let both = sym asked ∙ off in cc both))
-point-any d was prompts.Name search_state e row column asked is = (e.search_state, refl, λ one. one (λ off. let both = sym asked ∙ off in cc both))
-point-any d was prompts.Code search_state e row column asked is = (e.search_state, refl, λ one. one (λ off. let both = sym asked ∙ off in cc both))
-
--- all that the key leaves
-abbrev at-point : Data → Editor → ℕ → ℕ → SearchState → Editor
-at-point d e row column search_state = record e {
+-- all that a first press leaves
+abbrev at-point : Data → Editor → ℕ → ℕ → Option ℕ → Soft → Option Clicks → Option Pressed → Editor
+at-point d e row column mark soft clicks pressed = record e {
   place = pointed_place d e row column;
-  mark = mark_left e.soft e.mark;
-  soft = aged (soft_left e.soft);
-  search_state = search_state;
+  mark = mark;
+  soft = soft;
+  clicks = clicks;
+  pressed = pressed;
+  search_state = Off;
   prompt = prompts.Off;
   typing = typings.Off;
   message = None;
@@ -79,30 +60,108 @@ at-point d e row column search_state = record e {
   goal = None;
 }
 
-point-is : (d : Data) (e : Editor) (row column : ℕ) → e.pasted ≡ None
-    → (s : SearchState) × (after_key d None e (Point row column) ≡ at-point d e row column s) × (HasOnePrompt e → s ≡ Off)
-point-is d e row column settled =
-    let one = point-any d (before e) e.prompt e.search_state (cleared e) row column refl refl in
-    (one.0, any-key d None e (Point row column) settled refl ∙ ap behind one.1, one.2)
+record IsPointed (d : Data) (e : Editor) (row column : ℕ) (new : Editor) : Type 0 where
+  pub mark : Option ℕ
+  pub soft : Soft
+  pub clicks : Option Clicks
+  pub pressed : Option Pressed
+  pub is : new ≡ at-point d e row column mark soft clicks pressed
 
-point-off : (d : Data) (e : Editor) (row column : ℕ) → e.pasted ≡ None → HasOnePrompt e → after_key d None e (Point row column) ≡ at-point d e row column Off
-point-off d e row column settled one =
-    let is = point-is d e row column settled in is.1 ∙ ap (at-point d e row column) (is.2 one)
+-- where nothing is asked or sought any more
+abbrev free : Editor → Editor
+free e = without_prompt (cleared e)
 
--- a row of the picture that shows text
-in-text : (d : Data) (e : Editor) (row column : ℕ) → row ≤ text_height e.height → pointed_place d e row column ≡ pointed_at e.width (rows d e) e.top row column
-in-text d e row column high =
-    ap (λ b. if b then pointed_at e.width (rows d e) e.top row column else e.place) (le-leb row (text_height e.height) high)
+pressed-by : (d : Data) (e : Editor) (row column : ℕ) (soft : Soft)
+    → IsPointed d e row column (as_left (Point row column) (pressing_with d (free e) row column (pointed_place d e row column) soft))
+pressed-by d e row column softness.Fresh =
+    let place = pointed_place d e row column in
+    record {
+      mark = e.mark;
+      soft = aged e.soft;
+      clicks = None;
+      pressed = Some (pressing (unwrap_or e.mark place, unwrap_or e.mark place) extents.Unit);
+      is = refl;
+    }
+pressed-by d e row column softness.Off = record {
+  mark = mark_left e.soft e.mark;
+  soft = aged (soft_left e.soft);
+  clicks = Some (clicking row column extents.Unit);
+  pressed = Some (pressing (part_at d e extents.Unit (pointed_place d e row column)) extents.Unit);
+  is = refl;
+}
+pressed-by d e row column softness.Old = record {
+  mark = mark_left e.soft e.mark;
+  soft = aged (soft_left e.soft);
+  clicks = Some (clicking row column extents.Unit);
+  pressed = Some (pressing (part_at d e extents.Unit (pointed_place d e row column)) extents.Unit);
+  is = refl;
+}
+
+-- a press in a row of the picture that shows text
+press-is : (d : Data) (e : Editor) (row column : ℕ) → e.pasted ≡ None → (e.prompt ≡ prompts.Overwrite → ⊥) → row ≤ text_height e.height
+    → after_key d None e (Point row column)
+    ≡ as_left (Point row column) (pressed_at d (free e) row column (pointed_place d e row column) (press_extent e.clicks row column))
+press-is d e row column settled other high =
+    let x = free e in
+    let press = pressed_at d x row column (pointed_place d e row column) (press_extent e.clicks row column) in
+    ended-key d None e (Point row column) settled refl refl refl other
+    ∙ ap (λ b. as_left (Point row column) (if b then press else record (unselected x) { clicks = None; pressed = None }))
+    (le-leb row (text_height e.height) high)
+
+pub first-is : (d : Data) (e : Editor) (row column : ℕ) → e.pasted ≡ None → (e.prompt ≡ prompts.Overwrite → ⊥) → row ≤ text_height e.height
+    → IsFirstPress e (Point row column)
+    → after_key d None e (Point row column) ≡ as_left (Point row column) (pressing_with d (free e) row column (pointed_place d e row column) e.soft)
+first-is d e row column settled other high first =
+    press-is d e row column settled other high
+    ∙ ap (λ extent. as_left (Point row column) (pressed_at d (free e) row column (pointed_place d e row column) extent)) first
+
+-- the same, as a record
+point-is : (d : Data) (e : Editor) (row column : ℕ) → e.pasted ≡ None → (e.prompt ≡ prompts.Overwrite → ⊥) → row ≤ text_height e.height
+    → IsFirstPress e (Point row column) → IsPointed d e row column (after_key d None e (Point row column))
+point-is d e row column settled other high first =
+    subst (IsPointed d e row column) (sym (first-is d e row column settled other high first)) (pressed-by d e row column e.soft)
+
+pub point-place : (d : Data) (e : Editor) (row column : ℕ) → e.pasted ≡ None → (e.prompt ≡ prompts.Overwrite → ⊥) → row ≤ text_height e.height
+    → IsFirstPress e (Point row column) → (after_key d None e (Point row column)).place ≡ pointed_place d e row column
+point-place d e row column settled other high first = ap (λ x. x.place) (point-is d e row column settled other high first).is
+
+place-by : (d : Data) (e : Editor) (row column place : ℕ) (soft : Soft) → (pressing_with d e row column place soft).place ≡ place
+place-by d e row column place softness.Fresh = refl
+place-by d e row column place softness.Off = refl
+place-by d e row column place softness.Old = refl
+
+-- a drag where nothing is pressed
+pub drag-place : (d : Data) (e : Editor) (row column : ℕ) → e.pasted ≡ None → (e.prompt ≡ prompts.Overwrite → ⊥) → row ≤ text_height e.height
+    → IsFirstPress e (Point row column) → e.pressed ≡ None → (after_key d None e (Drag row column)).place ≡ pointed_place d e row column
+drag-place d e row column settled other high first pressed =
+    let x = free e in
+    let place = pointed_place d e row column in
+    let press = pressed_at d x row column place (press_extent e.clicks row column) in
+    ap (λ n. n.place) (ended-key d None e (Drag row column) settled refl refl refl other)
+    ∙ ap (λ p. (after_drag d x row column p).place) pressed
+    ∙ ap (λ b. (if b then press else record (unselected x) { clicks = None; pressed = None }).place) (le-leb row (text_height e.height) high)
+    ∙ ap (λ extent. (pressed_at d x row column place extent).place) first
+    ∙ place-by d x row column place e.soft
 
 -- ---- the cursor in the picture
 
-seen-row : (d : Data) (e : Editor) → e.ended ≡ false → cursor_row d e ≡ row_of (rows d e) e.place - row_of (rows d e) e.top + 1
-seen-row d e on = ap (λ b. (if b then blank_picture e.height e.width else text_picture d e e.top (rows d e)).row + 1) on
+seen : (d : Data) (e : Editor) → e.ended ≡ false → input_column d e ≡ None → picture d e e.top ≡ in_text d e e.top
+seen d e on none =
+    ap (λ b. if b then blank_picture e.height e.width else text_picture d e e.top (rows d e)) on
+    ∙ ap (λ o. with_cursor o (in_text d e e.top)) none
 
-seen-column : (d : Data) (e : Editor) → HasRows e → e.ended ≡ false → cursor_column d e ≡ cell_of e.width (rows d e) e.place
-seen-column d e has on =
+seen-row : (d : Data) (e : Editor) → e.ended ≡ false → input_column d e ≡ None → cursor_row d e ≡ row_of (rows d e) e.place - row_of (rows d e) e.top + 1
+seen-row d e on none = ap (λ p. p.row + 1) (seen d e on none)
+
+seen-column : (d : Data) (e : Editor) → HasRows e → e.ended ≡ false → input_column d e ≡ None → cursor_column d e ≡ cell_of e.width (rows d e) e.place
+seen-column d e has on none =
     let some = (cell-inside d e.base e.width e.content.text e.place (side-some e.width has.columns) has.text).0 in
-    ap (λ b. (if b then blank_picture e.height e.width else text_picture d e e.top (rows d e)).column + 1) on ∙ omega (arith, some)
+    ap (λ p. p.column + 1) (seen d e on none) ∙ omega (arith, some)
+
+-- no input line is shown
+no-column : (high : Bool) (column : Option ℕ) → column ≡ None → (if high then column else None) ≡ None
+no-column true none is = is
+no-column false none is = refl
 
 height-some : (height : ℕ) → 0 < text_height height
 height-some height = by-two (nat_le 2 height) refl
@@ -123,16 +182,19 @@ stays-or-full w r place at new is (inl same) = inl (is ∙ same)
 stays-or-full w r place at new is (inr full) = inr (record { last = full.last; at_end = full.place_is; full = full.full })
 
 pub point-stays : PointStays
-point-stays d e shown place among =
+point-stays d e shown none first place among =
     let has = shown.has in
     let some = side-some e.width has.columns in
     let all = rows d e in
     let row = picture_row all e.top (row_of all e.place) in
     let column = cell_of e.width all e.place in
+    let at-row : cursor_row d e ≡ row = seen-row d e shown.on none in
+    let at-column : cursor_column d e ≡ column = seen-column d e has shown.on none in
+    let high : cursor_row d e ≤ text_height e.height = omega (arith, at-row, among.below, among.above) in
     let kept : pointed_place d e (cursor_row d e) (cursor_column d e) ≡ pointed_at e.width all e.top row column =
-    ap₂ (pointed_place d e) (seen-row d e shown.on) (seen-column d e has shown.on) ∙ in-text d e row column (omega (arith, among.below, among.above)) in
+    ap₂ (pointed_place d e) at-row at-column in
     let new : (after_key d None e (Point (cursor_row d e) (cursor_column d e))).place ≡ pointed_at e.width all e.top row column =
-    ap (λ (x : Editor). x.place) ((point-is d e (cursor_row d e) (cursor_column d e) shown.settled).1) ∙ kept in
+    ap (λ (x : Editor). x.place) ((point-is d e (cursor_row d e) (cursor_column d e) shown.settled shown.undecided high first).is) ∙ kept in
     stays-or-full e.width (own_row d e) e.place (pointed_at e.width all e.top row column)
     (after_key d None e (Point (cursor_row d e) (cursor_column d e))).place new
     (own-cells-stay d e.base e.width some e.content.text has.text e.top e.place
@@ -141,101 +203,134 @@ point-stays d e shown place among =
 -- ---- at a unit
 
 pub point-takes-units : PointTakesUnits
-point-takes-units d e k place column stop c shown low within high shows start upto =
+point-takes-units d e k place column stop c shown low within high shows start upto press =
     let has = shown.has in
     let some = side-some e.width has.columns in
     let all = rows d e in
     let t = text_height e.height in
     let row = picture_row all e.top k in
     let leads = units-are-taken d e.base e.width some e.content.text has.text e.top k place column stop c low within shows start upto in
-    let is = point-is d e row c shown.settled in
-    let x = at-point d e row c is.0 in
-    let there = in-text d e row c high in
-    let at : x.place ≡ place = there ∙ leads.place_is in
+    let is = point-is d e row c shown.settled shown.undecided high press in
+    let x = at-point d e row c is.mark is.soft is.clicks is.pressed in
+    let at : x.place ≡ place = leads.place_is in
     let top : (scrolled d x).top ≡ first (row_at all (row_of all e.top)) =
-    ap (λ b. if b then e.top else follow all e.top x.place t) shown.on ∙ ap (λ p. follow all e.top p t) there
-    ∙ (stays-on-top d e has).same e.top row c high in
+    ap (λ b. if b then e.top else follow all e.top x.place t) shown.on ∙ (stays-on-top d e has).same e.top row c high in
     let above : row_of all (scrolled d x).top ≡ row_of all e.top =
     ap (row_of all) top ∙ falls-own all _ (rows-rise d e.base e.width some e.content.text has.text) (row_of all e.top) (omega (arith, low, within)) in
-    subst (StandsAt d row column place) (sym is.1)
+    let none : input_column d (scrolled d x) ≡ None = no-column (nat_le 2 e.height) None refl in
+    subst (StandsAt d row column place) (sym is.is)
     (record {
       place_is = at;
-      row_is = seen-row d (scrolled d x) shown.on ∙ ap₂ (λ a b. a - b + 1) (ap (row_of all) at ∙ leads.row_is) above;
-      column_is = seen-column d (scrolled d x) (record { text = has.text; columns = has.columns }) shown.on ∙ ap (cell_of e.width all) at ∙ leads.column_is;
+      row_is = seen-row d (scrolled d x) shown.on none ∙ ap₂ (λ a b. a - b + 1) (ap (row_of all) at ∙ leads.row_is) above;
+      column_is = seen-column d (scrolled d x) (record { text = has.text; columns = has.columns }) shown.on none ∙ ap (cell_of e.width all) at
+          ∙ leads.column_is;
     })
 
--- ---- twice
+-- ---- again and again
 
--- the mark, and how fresh it is, once two moves have come
-left-alone : (soft : Soft) (mark : Option ℕ) → soft ≢ softness.Fresh
-    → (mark_left (aged (soft_left soft)) (mark_left soft mark) ≡ mark_left soft mark) × (aged (soft_left (aged (soft_left soft))) ≡ aged (soft_left soft))
-left-alone softness.Off mark old = (refl, refl)
-left-alone softness.Fresh mark old = absurd (old refl)
-left-alone softness.Old mark old = (refl, refl)
+at-itself : (n : ℕ) → (n == n) ≡ true
+at-itself n = grind (arith, nat_tests)
 
-taken-off : (soft : Soft) (mark : Option ℕ) → soft ≡ softness.Fresh
-    → (mark_left (aged (soft_left soft)) (mark_left soft mark) ≡ None) × (aged (soft_left (aged (soft_left soft))) ≡ softness.Off)
-taken-off softness.Off mark fresh = absurd (cc fresh)
-taken-off softness.Fresh mark fresh = (refl, refl)
-taken-off softness.Old mark fresh = absurd (cc fresh)
+not-fresh : (d : Data) (x : Editor) (row column place : ℕ) (soft : Soft) → soft ≢ softness.Fresh
+    → pressing_with d x row column place soft
+    ≡ record (unselected x) {
+      place = place;
+      clicks = Some (clicking row column extents.Unit);
+      pressed = Some (pressing (part_at d x extents.Unit place) extents.Unit);
+    }
+not-fresh d x row column place softness.Off other = refl
+not-fresh d x row column place softness.Fresh other = absurd (other refl)
+not-fresh d x row column place softness.Old other = refl
 
-module _ (d : Data) (e : Editor) (row column : ℕ) (has : HasRows e) (settled : e.pasted ≡ None) (one : HasOnePrompt e) where
-  abbrev all : List TextRow
-  all = rows d e
+-- behind a press at the same cell
+further-press : (d : Data) (y : Editor) (row column : ℕ) (extent : Extent) → y.pasted ≡ None → y.prompt ≡ prompts.Off → y.search_state ≡ Off
+    → row ≤ text_height y.height → y.clicks ≡ Some (clicking row column extent)
+    → after_key d None y (Point row column)
+    ≡ as_left (Point row column) (pressed_at d (cleared y) row column (pointed_place d y row column) (further extent))
+further-press d y row column extent settled unasked unsought high clicked =
+    let x = cleared y in
+    let place = pointed_place d y row column in
+    let press : Extent → Editor = λ n. as_left (Point row column) (pressed_at d x row column place n) in
+    free-key d None y (Point row column) settled refl refl unasked unsought
+    ∙ ap (λ b. as_left (Point row column)
+    (if b then pressed_at d x row column place (press_extent y.clicks row column) else record (unselected x) { clicks = None; pressed = None }))
+    (le-leb row (text_height y.height) high)
+    ∙ ap (λ c. press (press_extent c row column)) clicked
+    ∙ ap₂ (λ a b. press (if a && b then further extent else extents.Unit)) (at-itself row) (at-itself column)
 
-  abbrev t : ℕ
-  t = text_height e.height
+module _ (d : Data) (e : Editor) (row column : ℕ) (settled : e.pasted ≡ None) (other : e.prompt ≡ prompts.Overwrite → ⊥) (none : e.clicks ≡ None)
+    (old : e.soft ≢ softness.Fresh) (high : row ≤ text_height e.height) where
+  abbrev p : ℕ
+  p = pointed_place d e row column
 
-  abbrev x : Editor
-  x = at-point d e row column Off
+  abbrev word : ℕ × ℕ
+  word = stretch_at d e.content.text p
 
-  -- what is shown after the first Point
-  abbrev y : Editor
-  y = scrolled d x
+  abbrev line : ℕ × ℕ
+  line = line_of d e.content.text p
 
-  once : after_point d e row column ≡ y
-  once = ap (scrolled d) (point-off d e row column settled one)
+  abbrev key-left : Editor → Editor
+  key-left x = as_left (Point row column) x
 
-  -- the same place
-  by-end : (over : Bool) → row ≤ t → (p : ℕ) → p ≡ pointed_at e.width all e.top row column
-      → pointed_at e.width all (if over then e.top else follow all e.top p t) row column ≡ pointed_at e.width all e.top row column
-  by-end true high p is = refl
-  by-end false high p is =
-      ap (λ p. pointed_at e.width all (follow all e.top p t) row column) is ∙ (stays-on-top d e has).again e.top row column high
+  -- the first press
+  abbrev one : Editor
+  one = key-left (record (unselected (free e)) {
+    place = p;
+    clicks = Some (clicking row column extents.Unit);
+    pressed = Some (pressing (part_at d e extents.Unit p) extents.Unit);
+  })
 
-  by-height : (high : Bool) → nat_le row t ≡ high
-      → (if high then pointed_at e.width all y.top row column else y.place) ≡ y.place
-  by-height true is =
-      let there = in-text d e row column (leb-true row t is) in by-end e.ended (leb-true row t is) y.place there ∙ sym there
-  by-height false is = refl
+  first-press : after_key d None e (Point row column) ≡ one
+  first-press =
+      first-is d e row column settled other high (ap (λ c. press_extent c row column) none)
+      ∙ ap key-left (not-fresh d (free e) row column p e.soft old)
 
-  same-place : pointed_place d y row column ≡ y.place
-  same-place = by-height (nat_le row t) refl
+  -- the second, by whether there is a word
+  abbrev two : Bool → Editor
+  two empty =
+      key-left (record (if empty then record (cleared one) { mark = None; soft = softness.Off; place = word.0 } else selecting_part (cleared one) word.0 word.1) {
+        clicks = Some (clicking row column extents.Word);
+        pressed = Some (pressing word extents.Word);
+      })
 
-  abbrev z : Editor
-  z = at-point d y row column Off
+  second-press : after_key d None one (Point row column) ≡ two (is_empty word)
+  second-press = further-press d one row column extents.Unit settled refl refl high refl
 
-  same-top : next_top d z y.top ≡ y.top
-  same-top = ap (λ p. next_top d (with_place z p) y.top) same-place ∙ top-stays d x e.top (record { text = has.text; columns = has.columns })
+  -- the third
+  abbrev three : Bool → Editor
+  three empty =
+      key-left (record (selecting_part (cleared (two empty)) line.0 line.1) {
+        clicks = Some (clicking row column extents.Paragraph);
+        pressed = Some (pressing line extents.Paragraph);
+      })
 
-  abbrev marked : Option ℕ → Soft → Editor
-  marked mark soft = record y { mark = mark; soft = soft }
+  third-press : (empty : Bool) → after_key d None (two empty) (Point row column) ≡ three empty
+  third-press true = further-press d (two true) row column extents.Word settled refl refl high refl
+  third-press false = further-press d (two false) row column extents.Word settled refl refl high refl
 
-  twice : after_point d y row column ≡ marked z.mark z.soft
-  twice =
-      ap (scrolled d) (point-off d y row column settled (λ on. refl))
-      ∙ ap₂ (λ p top. record (marked z.mark z.soft) { place = p; top = top }) same-place same-top
+  fourth-press : (empty : Bool) → IsBare p (after_key d None (three empty) (Point row column))
+  fourth-press true =
+      subst (IsBare p) (sym (further-press d (three true) row column extents.Paragraph settled refl refl high refl))
+      (record { place_is = refl; mark_is = refl })
+  fourth-press false =
+      subst (IsBare p) (sym (further-press d (three false) row column extents.Paragraph settled refl refl high refl))
+      (record { place_is = refl; mark_is = refl })
 
-  again : after_point d (after_point d e row column) row column ≡ marked z.mark z.soft
-  again = ap (λ now. after_point d now row column) once ∙ twice
+  after-two : after_keys d None e (presses row column 2) ≡ two (is_empty word)
+  after-two = ap (λ x. after_key d None x (Point row column)) first-press ∙ second-press
 
-pub point-twice-is-once : PointTwiceIsOnce
-point-twice-is-once d e row column has settled one = record {
-  same = λ old.
-      let left = left-alone e.soft e.mark old in
-      again d e row column has settled one ∙ ap₂ (marked d e row column has settled one) left.0 left.1 ∙ sym (once d e row column has settled one);
-  fresh = λ is.
-      let left = taken-off e.soft e.mark is in
-      again d e row column has settled one ∙ ap₂ (marked d e row column has settled one) left.0 left.1
-      ∙ sym (ap (λ (now : Editor). record now { mark = None; soft = softness.Off }) (once d e row column has settled one));
-}
+  after-three : after_keys d None e (presses row column 3) ≡ three (is_empty word)
+  after-three = ap (λ x. after_key d None x (Point row column)) after-two ∙ third-press (is_empty word)
+
+  takes : PressesTake d e row column p
+  takes = record {
+    first = ap (λ (x : Editor). x.place) first-press;
+    leaves = ap (λ (x : Editor). x.mark) first-press;
+    word = λ some. subst (IsSelected word) (sym (after-two ∙ ap two some)) (record { mark_is = refl; place_is = refl; soft_is = refl });
+    no_word = λ empty. subst (IsBare word.0) (sym (after-two ∙ ap two empty)) (record { place_is = refl; mark_is = refl });
+    paragraph = subst (IsSelected line) (sym after-three) (record { mark_is = refl; place_is = refl; soft_is = refl });
+    again = subst (λ x. IsBare p (after_key d None x (Point row column))) (sym after-three) (fourth-press (is_empty word));
+  }
+
+pub three-presses : ThreePresses
+three-presses d e row column settled other none old high = takes d e row column settled other none old high

@@ -1,15 +1,15 @@
 -- Worked examples, each from a law of pointing alone.
-use Rattle.std.proofs.Common.{◌≡◌, ℕ, ◌≤◌, ◌<◌, [], ◌∷◌, drop, refl, ap, arith, ⊎_elim}
-use Rattle.std.specs.Prelude.{codes, None}
+use Rattle.std.proofs.Common.{◌≡◌, ℕ, ◌≤◌, ◌<◌, [], ◌∷◌, drop, refl, arith, ⊎_elim}
+use Rattle.std.specs.Prelude.{codes, None, Some}
 use Rattle.std.specs.Fmt.{digits}
 use Rattle.unicode_segmentation.proofs.Computing.{unicode_segmentation}
 use Rattle.unicode_width.proofs.Computing.{unicode_width}
-use Rattle.bx_keys.specs.declared.key.Key.TheVariants.{Forward, Point, Select}
+use Rattle.bx_keys.specs.declared.key.Key.TheVariants.{Forward, Point}
 use Rattle.bx_view.specs.TextRows.{TextRow, row_at, text_row_glyphs}
 use Rattle.bx_view_laws.specs.Pointed.{ShowsUnit}
 use Rattle.bx_editor.specs.Editor.{Editor, rows}
 use Rattle.bx_editor.specs.Picture.{scrolled}
-use Rattle.bx_editor_laws.specs.PointingLaws.{after_point, cursor_column, IsShown, PointStays, PointTakesUnits, PointTwiceIsOnce}
+use Rattle.bx_editor_laws.specs.PointingLaws.{cursor_column, IsShown, PointStays, PointTakesUnits, ThreePresses}
 use Rattle.bx_editor.proofs.Computed.{tables, start, after}
 
 -- ---- at the cursor
@@ -24,7 +24,7 @@ its_own_cell_leaves_it law =
     let above : 0 ≤ 0 = omega arith in
     let below : 0 < 1 = omega arith in
     ⊎_elim (λ same. same) (λ full. absurd (cc full.full))
-    (law tables at_c (record { has = record { text = (codes "abcd", (refl, refl)); columns = refl }; on = refl; settled = refl }) (2, omega arith, refl)
+    (law tables at_c (record { has = record { text = (codes "abcd", (refl, refl)); columns = refl }; on = refl; settled = refl; undecided = (λ over. cc over) }) refl refl (2, omega arith, refl)
     (record { above = above; below = below }))
 
 -- ---- at a unit
@@ -70,18 +70,31 @@ its_second_column_leads_to_its_first law =
       has = record { text = (wide ∷ 0x78 ∷ wide ∷ [], (refl, refl)); columns = refl };
       on = refl;
       settled = refl;
+      undecided = (λ over. cc over);
     } in
-    let stands = law tables wide_ones 0 4 4 6 5 shown low within high the_second_is_shown (omega arith) (omega arith) in (stands.place_is, stands.column_is)
+    let stands = law tables wide_ones 0 4 4 6 5 shown low within high the_second_is_shown (omega arith) (omega arith) refl in (stands.place_is, stands.column_is)
 
--- ---- twice
+-- ---- again and again
 
--- a selection has just begun at the first of six letters
-abbrev just_selected : Editor
-just_selected = after (start (codes "abcdef") 2 20) (Select ∷ [])
+-- a word that has its cells from the fourth on
+abbrev two_words : Editor
+two_words = start (codes "ab cd") 2 20
 
-pub the_second_time_takes_it_off : PointTwiceIsOnce
-    → let e = after_point tables (after_point tables just_selected 1 4) 1 4 in (e.place ≡ 3) × (e.mark ≡ None)
+-- the third press takes the line, which has no separator here
+pub the_word_and_then_the_line : ThreePresses
+    → let two = after two_words (Point 1 4 ∷ Point 1 4 ∷ []) in
+    let three = after two_words (Point 1 4 ∷ Point 1 4 ∷ Point 1 4 ∷ []) in
+    ((two.mark ≡ Some 3) × (two.place ≡ 5)) × ((three.mark ≡ Some 0) × (three.place ≡ 5))
 unfolding unicode_segmentation unicode_width digits
-the_second_time_takes_it_off law =
-    let twice = (law tables just_selected 1 4 (record { text = (codes "abcdef", (refl, refl)); columns = refl }) refl (λ asked. refl)).fresh refl in
-    (ap (λ (e : Editor). e.place) twice, ap (λ (e : Editor). e.mark) twice)
+the_word_and_then_the_line law =
+    let high : 1 ≤ 1 = omega arith in
+    let taken = law tables two_words 1 4 refl (λ over. cc over) refl (λ fresh. cc fresh) high in
+    let word = taken.word refl in
+    ((word.mark_is, word.place_is), (taken.paragraph.mark_is, taken.paragraph.place_is))
+
+pub the_fourth_goes_there_again : ThreePresses
+    → let e = after two_words (Point 1 4 ∷ Point 1 4 ∷ Point 1 4 ∷ Point 1 4 ∷ []) in (e.place ≡ 3) × (e.mark ≡ None)
+unfolding unicode_segmentation unicode_width digits
+the_fourth_goes_there_again law =
+    let high : 1 ≤ 1 = omega arith in
+    let again = (law tables two_words 1 4 refl (λ over. cc over) refl (λ fresh. cc fresh) high).again in (again.place_is, again.mark_is)

@@ -1,9 +1,10 @@
 -- Keys while a question is on.
-use Rattle.std.proofs.Common.{◌≡◌, ℕ, Bool, true, false, List, [], ◌∷◌, length, refl, sym, ap, subst, ◌∙◌, if◌then◌else◌}
-use Rattle.std.specs.Prelude.{◌≢◌, ◌||◌, ◌==◌, chars, encode_utf8, Option, Some, None}
+use Rattle.std.proofs.Common.{◌≡◌, ℕ, Bool, true, false, List, [], ◌∷◌, length, refl, sym, ap, subst, ◌∙◌, inl, inr, ⊎_elim, if◌then◌else◌}
+use Rattle.std.specs.Prelude.{◌≢◌, ◌⊎◌, ◌||◌, ◌&&◌, ◌==◌, not, chars, encode_utf8, Option, Some, None}
 use Rattle.bx_editor.specs.declared.questions.answers.Prompt.{Prompt}
-use Rattle.bx_editor.specs.declared.questions.answers.Prompt.TheVariants.{Off, Line, Name, Code}
-use Rattle.bx_editor.specs.questions.Answers.{lengthened, shortened, asked, is_line_letter}
+use Rattle.bx_editor.specs.declared.questions.answers.Prompt.TheVariants.{Off, Line, Name, Code, File, Overwrite}
+use Rattle.bx_editor.specs.questions.Answers.{asked, is_line_letter}
+use Rattle.bx_editor.specs.questions.KeyLetters.{code_letter, name_letter}
 use Rattle.bx_editor.specs.questions.Names.{coded, is_code_letter, asks_code, closing, named}
 use Rattle.bx_editor.specs.declared.questions.line.Target.{Target}
 use Rattle.bx_keys.specs.declared.key.Key.{Key}
@@ -14,33 +15,51 @@ use Rattle.bx_editor.specs.declared.undo_groups.typing.Typing.TheVariants as typ
 use Rattle.bx_editor.specs.undo_groups.Groups.{after_insertion, kind_of}
 use Rattle.bx_text.specs.Edits.{fits, fits_both}
 use Rattle.bx_ucd.specs.Data.{Data}
+use Rattle.bx_view.specs.declared.moves.Vertical.{Vertical}
+use Rattle.bx_view.specs.Moves.{row_home}
+use Rattle.bx_editor.specs.declared.answer.Answer.{Answer}
+use Rattle.bx_editor.specs.declared.answer.Answer.TheVariants.{Letter, Erases, Moves, PutsIn, Passes, GoesBack, Next, Previous, Replaces, Scrolls, Stays, Ends}
+use Rattle.bx_editor.specs.declared.input_line.Erasure.{Erasure}
+use Rattle.bx_editor.specs.declared.input_line.Erasure.TheVariants.{LastCharacter, Unit}
 use Rattle.bx_editor.specs.declared.message.Message.TheVariants as messages
 use Rattle.bx_editor.specs.declared.search_state.SearchState.{SearchState}
 use Rattle.bx_editor.specs.declared.cursor.Soft.TheVariants as softness
-use Rattle.bx_editor.specs.Asking.{after_answer_letter, after_code, after_code_letter, after_going, after_line_letter, after_name_letter}
-use Rattle.bx_editor.specs.Asking.{after_named, after_shorter_answer, gone_to, longest_code, longest_line, with_answer, with_character}
-use Rattle.bx_editor.specs.Asking.{without_prompt, after_wrapping, spans_lines, with_wrap}
+use Rattle.bx_editor.specs.Answering.{answer_of, without_line}
+use Rattle.bx_editor.specs.Asking.{after_answer_letter, after_code, after_code_letter, after_erasing_answer, after_file_letter, after_going, after_line_letter}
+use Rattle.bx_editor.specs.Asking.{after_name_key, after_name_letter, after_named, answer_lengthened, answer_line, asking, gone_to, is_code_prompt, is_of_last}
+use Rattle.bx_editor.specs.Asking.{longest_code, longest_line, with_answer, with_character, without_prompt, after_wrapping, spans_lines, with_wrap}
 use Rattle.bx_editor_laws.specs.AskingLaws.{IsUntouched, QuestionsChangeThemselves, StaysAsked, erases, types}
-use Rattle.bx_editor.specs.Editor.{Editor, cleared, with_insertion, with_typing}
-use Rattle.bx_editor.specs.Effects.{Effect}
-use Rattle.bx_editor.specs.Effects.{AsksLine, AsksName, Before, before, by}
-use Rattle.bx_editor.specs.Keys.{Answer, Letter, Shortens, GoesBack, Stays, after_any, after_asking, after_key, answer_of, answered_question, as_left, effect_of}
+use Rattle.bx_editor.specs.Editor.{Editor, cleared, rows, unpressed, with_insertion, with_typing}
+use Rattle.bx_editor.specs.Effects.{Effect, AsksLine, AsksName, AsksFile, AsksOverwrite, Refuses, Saves, Wheels, by}
+use Rattle.bx_editor.specs.Before.{Before, before}
+use Rattle.bx_editor.specs.InputLines.{after_taking, erases_nothing, is_no_letter, is_taken, line_shortened, paste_behind, with_paste_behind}
+use Rattle.bx_editor.specs.Keys.{after_any, after_asking, after_key, after_pressing, allowed_effect, answered_name, answered_overwrite, answered_question}
+use Rattle.bx_editor.specs.Keys.{as_left, refuses_replacing}
+use Rattle.bx_editor.specs.LinePuts.{after_line_put, is_in_line, typed_in}
 use Rattle.bx_editor.specs.Functions.{is_told_key}
 use Rattle.bx_editor_laws.specs.Laws.{after_typing}
-use Rattle.bx_editor.specs.Putting.{paste_begun, paste_ended, is_paste, only_paste}
+use Rattle.bx_editor.specs.Putting.{is_paste, paste_begun, paste_ended, refuses_paste}
 use Rattle.bx_editor.specs.Region.{is_empty, region, aged, mark_left, soft_behind, soft_left}
-use Rattle.bx_editor.proofs.InSearch.{any-key}
+use Rattle.bx_editor.specs.RowMoves.{after_wheel, carried, shows_place, wheel_top}
+use Rattle.bx_editor.specs.Saving.{after_deciding, after_naming, after_save, is_changed, longest_name, takes_name, with_answered_name, without_answer}
+use Rattle.bx_editor.proofs.InSearch.{any-key, each-key, pressed-key}
+use Rattle.bx_editor.proofs.LinePutsLeft.{code-letter-kept}
 use Rattle.bx_editor.proofs.QuestionKept.{effect-keeps}
+use Rattle.bx_editor.proofs.Saved.{IsKeptSaving, deciding-keeps, naming-keeps, saving-keeps}
+use Rattle.bx_editor_laws.proofs.KeyEnds.{behind, user-key}
+use Rattle.bx_editor_laws.proofs.LineKept.{in-line-keeps}
 use Rattle.bx_editor_laws.proofs.PasteEnded.{none-ended}
 
 -- ---- a question takes the keys
 
 pub asked-any : (d : Data) (fault : Option StoreFault) (was : Before) (prompt : Prompt) (search_state : SearchState) (e : Editor) (key : Key) → prompt ≢ Off
-    → after_any d fault was prompt search_state e key ≡ after_asking d fault was e key
+    → after_any d fault was prompt search_state e key ≡ after_asking d fault was prompt e key
 asked-any d fault was Off search_state e key on = absurd (on refl)
 asked-any d fault was Line search_state e key on = refl
 asked-any d fault was Name search_state e key on = refl
 asked-any d fault was Code search_state e key on = refl
+asked-any d fault was File search_state e key on = refl
+asked-any d fault was Overwrite search_state e key on = refl
 
 -- ---- no question is on behind what an answer puts in
 
@@ -75,70 +94,138 @@ code-off d e (Some c) h = character-off d e c h
 
 -- question, answer and what goes on alone differ
 abbrev pub IsKept : Editor → Editor → Type 0
-IsKept e new = new ≡ record e { prompt = new.prompt; answer = new.answer; typing = new.typing }
+IsKept e new = new ≡ record e { prompt = new.prompt; answer = new.answer; input_cursor = new.input_cursor; typing = new.typing }
 
--- if a question is on, they alone differ
+-- if a question is on, and not the one whether to overwrite, they alone differ
 abbrev pub IsKeptIfOn : Editor → Editor → Type 0
-IsKeptIfOn e new = new.prompt ≢ Off → IsKept e new
+IsKeptIfOn e new = new.prompt ≢ Off → new.prompt ≢ Overwrite → IsKept e new
 
 either-on : (e : Editor) (b : Bool) (p q : Editor) → IsKeptIfOn e p → IsKeptIfOn e q → IsKeptIfOn e (if b then p else q)
 either-on e true p q h k = h
 either-on e false p q h k = k
 
 typed-on : (e new : Editor) (typing : Typing) → IsKeptIfOn e new → IsKeptIfOn e (with_typing new typing)
-typed-on e new typing h on = ap (λ x. with_typing x typing) (h on)
+typed-on e new typing h on over = ap (λ x. with_typing x typing) (h on over)
 
 going-off : (d : Data) (e : Editor) (target : Option Target) → e.prompt ≡ Off → (gone_to d e target).prompt ≡ Off
 going-off d e None h = h
 going-off d e (Some target) h = h
 
-going-on : (d : Data) (e : Editor) → IsKeptIfOn e (after_going d e)
-going-on d e on = absurd (on (going-off d (without_prompt e) (asked (chars e.answer)) refl))
+off-on : (e new : Editor) → new.prompt ≡ Off → IsKeptIfOn e new
+off-on e new off on over = absurd (on off)
 
-line-on : (d : Data) (typing : Typing) (e : Editor) (c : ℕ) → IsKeptIfOn e (with_typing (after_line_letter d typing e c) (only_paste typing))
-line-on d typing e c =
-    let longer = with_answer e (lengthened longest_line e.answer c) in
-    let going = if is_paste typing then e else after_going d e in
-    let letter = if is_line_letter c then longer else e in
-    typed-on e (after_line_letter d typing e c) (only_paste typing)
-    (either-on e (c == 0xA) going letter (either-on e (is_paste typing) e (after_going d e) (λ on. refl) (going-on d e))
-    (either-on e (is_line_letter c) longer e (λ on. refl) (λ on. refl)))
+line-on : (d : Data) (e : Editor) (c : ℕ) → IsKeptIfOn e (after_line_letter d e c)
+line-on d e c =
+    let more = answer_lengthened d longest_line e c in
+    either-on e (c == 0xA) (after_going d e) (if is_line_letter c then more else e)
+    (off-on e (after_going d e) (going-off d (without_prompt e) (asked (chars e.answer)) refl))
+    (either-on e (is_line_letter c) more e (λ on over. refl) (λ on over. refl))
 
 name-on : (d : Data) (e : Editor) (letter : ℕ) (c : Option ℕ) → IsKeptIfOn e (after_name_letter d e letter c)
 name-on d e letter None =
-    let coding : Editor = record e { prompt = Code } in
     let ended = if letter == 0xA then without_prompt e else e in
-    either-on e (asks_code letter) coding ended (λ on. refl) (either-on e (letter == 0xA) (without_prompt e) e (λ on. refl) (λ on. refl))
-name-on d e letter (Some c) = λ on. absurd (on (named-off d (without_prompt e) c (closing letter) refl))
+    either-on e (asks_code letter) (asking e Code) ended (λ on over. refl)
+    (either-on e (letter == 0xA) (without_prompt e) e (off-on e (without_prompt e) refl) (λ on over. refl))
+name-on d e letter (Some c) = off-on e (after_named d (without_prompt e) c (closing letter)) (named-off d (without_prompt e) c (closing letter) refl)
 
 code-on : (d : Data) (e : Editor) (letter : ℕ) → IsKeptIfOn e (after_code_letter d e letter)
 code-on d e letter =
     let put = after_code d (without_prompt e) (coded e.answer) in
-    let longer = with_answer e (lengthened longest_code e.answer letter) in
-    let digit = if is_code_letter letter then longer else e in
-    either-on e (letter == 0xA) put digit (λ on. absurd (on (code-off d (without_prompt e) (coded e.answer) refl)))
-    (either-on e (is_code_letter letter) longer e (λ on. refl) (λ on. refl))
+    let more = answer_lengthened d longest_code e letter in
+    either-on e (letter == 0xA) put (if is_code_letter letter then more else e)
+    (off-on e put (code-off d (without_prompt e) (coded e.answer) refl))
+    (either-on e (is_code_letter letter) more e (λ on over. refl) (λ on over. refl))
 
-unless-on : (typing : Typing) (e new : Editor) → IsKeptIfOn e new → IsKeptIfOn e (if is_paste typing then with_typing e typing else new)
-unless-on typing e new h = either-on e (is_paste typing) (with_typing e typing) new (λ on. refl) h
+-- a save leaves no question, or the one whether to overwrite
+abbrev IsOut : Editor → Type 0
+IsOut e = (e.prompt ≡ Off) ⊎ (e.prompt ≡ Overwrite)
 
-letter-on : (d : Data) (typing : Typing) (prompt : Prompt) (e : Editor) (c : ℕ) → IsKeptIfOn e (after_answer_letter d typing prompt e c)
-letter-on d typing Off e c on = refl
-letter-on d typing Line e c on = line-on d typing e c on
-letter-on d typing Name e c on = unless-on typing e (after_name_letter d e c (named c)) (name-on d e c (named c)) on
-letter-on d typing Code e c on = unless-on typing e (after_code_letter d e c) (code-on d e c) on
+either-out : (b : Bool) (p q : Editor) → IsOut p → IsOut q → IsOut (if b then p else q)
+either-out true p q h k = h
+either-out false p q h k = k
+
+save-out : (e : Editor) (fault : Option StoreFault) → e.prompt ≡ Off → IsOut (after_save e fault)
+save-out e None off = inl off
+save-out e (Some fault) off = either-out (is_changed fault.cause) (record e { prompt = Overwrite }) e (inr refl) (inl off)
+
+naming-out : (fault : Option StoreFault) (e : Editor) → e.prompt ≡ Off → IsOut (after_naming fault e)
+naming-out fault e off =
+    let b = takes_name e fault in
+    let named = if b then with_answered_name e else without_answer e in
+    either-out (length e.answer == 0) e (after_save named fault) (inl off)
+    (save-out named fault (either-off b (with_answered_name e) (without_answer e) off off))
+
+out-on : (e new : Editor) → IsOut new → IsKeptIfOn e new
+out-on e new out on over = absurd (⊎_elim on over out)
+
+file-on : (d : Data) (fault : Option StoreFault) (e : Editor) (c : ℕ) → IsKeptIfOn e (after_file_letter d fault e c)
+file-on d fault e c =
+    let more = answer_lengthened d longest_name e c in
+    either-on e (c == 0xA) (after_naming fault (without_prompt e)) (if is_no_letter d c then e else more)
+    (out-on e (after_naming fault (without_prompt e)) (naming-out fault (without_prompt e) refl))
+    (either-on e (is_no_letter d c) e more (λ on over. refl) (λ on over. refl))
+
+letter-on : (d : Data) (fault : Option StoreFault) (prompt : Prompt) (e : Editor) (c : ℕ) → IsKeptIfOn e (after_answer_letter d fault prompt e c)
+letter-on d fault Off e c = λ on over. refl
+letter-on d fault Line e c = line-on d e c
+letter-on d fault Name e c = λ on over. refl
+letter-on d fault Code e c = code-on d e (code_letter c)
+letter-on d fault File e c = file-on d fault e c
+letter-on d fault Overwrite e c = λ on over. refl
+
+pasted-on : (e new : Editor) (typing : Option Typing) → IsKeptIfOn e new → IsKeptIfOn e (with_paste_behind typing new)
+pasted-on e new None h = h
+pasted-on e new (Some typing) h = typed-on e new typing h
+
+taking-on : (d : Data) (typing : Typing) (c : ℕ) (e new : Editor) → IsKeptIfOn e new → IsKeptIfOn e (after_taking d typing c e new)
+taking-on d typing c e new h =
+    pasted-on e (if is_taken d typing c then new else e) (paste_behind d typing c) (either-on e (is_taken d typing c) new e h (λ on over. refl))
+
+-- a character that answers, in any question but that whether to overwrite
+answer-on : (d : Data) (fault : Option StoreFault) (was : Before) (prompt : Prompt) (e : Editor) (key : Key) (c : ℕ) → answer_of key ≡ Letter c → prompt ≢ Overwrite
+    → IsKeptIfOn e (after_asking d fault was prompt e key)
+answer-on d fault was Off e key c is other =
+    subst (λ a. IsKeptIfOn e (answered_question d fault was e key a)) (sym is)
+    (taking-on d was.typing c e (after_answer_letter d fault e.prompt e c) (letter-on d fault e.prompt e c))
+answer-on d fault was Line e key c is other =
+    subst (λ a. IsKeptIfOn e (answered_question d fault was e key a)) (sym is)
+    (taking-on d was.typing c e (after_answer_letter d fault e.prompt e c) (letter-on d fault e.prompt e c))
+answer-on d fault was Name e key c is other =
+    subst (λ a. IsKeptIfOn e (answered_name d fault was e key (without_line a))) (sym is)
+    (either-on e (is_paste was.typing) (with_typing e was.typing) (after_name_key d e c) (λ on over. refl) (name-on d e (name_letter c) (named (name_letter c))))
+answer-on d fault was Code e key c is other =
+    subst (λ a. IsKeptIfOn e (answered_question d fault was e key a)) (sym is)
+    (taking-on d was.typing c e (after_answer_letter d fault e.prompt e c) (letter-on d fault e.prompt e c))
+answer-on d fault was File e key c is other =
+    subst (λ a. IsKeptIfOn e (answered_question d fault was e key a)) (sym is)
+    (taking-on d was.typing c e (after_answer_letter d fault e.prompt e c) (letter-on d fault e.prompt e c))
+answer-on d fault was Overwrite e key c is other = absurd (other refl)
 
 either-kept : (e : Editor) (b : Bool) (p q : Editor) → IsKept e p → IsKept e q → IsKept e (if b then p else q)
 either-kept e true p q h k = h
 either-kept e false p q h k = k
 
-shorter-on : (prompt : Prompt) (e : Editor) → IsKept e (after_shorter_answer prompt e)
-shorter-on Off e = refl
-shorter-on Line e = refl
-shorter-on Name e = refl
-shorter-on Code e =
+shorter-on : (d : Data) (prompt : Prompt) (e : Editor) (how : Erasure) → IsKept e (after_erasing_answer d prompt e how)
+shorter-on d prompt e how =
     let naming : Editor = record e { prompt = Name } in
-    either-kept e (length e.answer == 0) naming (with_answer e (shortened e.answer)) refl refl
+    let shorter = with_answer e (line_shortened d how (answer_line e)) in
+    either-kept e (is_code_prompt prompt && is_of_last how && (length e.answer == 0)) naming (if erases_nothing d how (answer_line e) then e else shorter) refl
+    (either-kept e (erases_nothing d how (answer_line e)) e shorter refl refl)
+
+-- an erasure that is one without an input line too
+erase-on : (d : Data) (fault : Option StoreFault) (was : Before) (prompt : Prompt) (e : Editor) (key : Key) (how : Erasure) → answer_of key ≡ Erases how
+    → without_line (Erases how) ≡ Erases how → prompt ≢ Overwrite → IsKeptIfOn e (after_asking d fault was prompt e key)
+erase-on d fault was Off e key how is still other =
+    subst (λ a. IsKeptIfOn e (answered_question d fault was e key a)) (sym is) (λ on over. shorter-on d e.prompt e how)
+erase-on d fault was Line e key how is still other =
+    subst (λ a. IsKeptIfOn e (answered_question d fault was e key a)) (sym is) (λ on over. shorter-on d e.prompt e how)
+erase-on d fault was Name e key how is still other =
+    subst (λ a. IsKeptIfOn e (answered_name d fault was e key a)) (sym (ap without_line is ∙ still)) (λ on over. refl)
+erase-on d fault was Code e key how is still other =
+    subst (λ a. IsKeptIfOn e (answered_question d fault was e key a)) (sym is) (λ on over. shorter-on d e.prompt e how)
+erase-on d fault was File e key how is still other =
+    subst (λ a. IsKeptIfOn e (answered_question d fault was e key a)) (sym is) (λ on over. shorter-on d e.prompt e how)
+erase-on d fault was Overwrite e key how is still other = absurd (other refl)
 
 -- ---- any answer
 
@@ -146,48 +233,49 @@ abbrev IsAlone : Editor → Editor → Type 0
 IsAlone e new = new ≡ record e {
   prompt = new.prompt;
   answer = new.answer;
+  input_cursor = new.input_cursor;
   message = None;
   quit_before = false;
   typing = new.typing;
   goal = None;
   soft = aged e.soft;
+  clicks = None;
+  pressed = None;
 }
-
--- a key that types or erases, whose new state is known
-alone : (d : Data) (fault : Option StoreFault) (e : Editor) (key : Key) (new : Editor) → (types key || erases key) ≡ true
-    → after_key d fault e key ≡ as_left key new → IsKept (cleared e) new → IsAlone e (after_key d fault e key)
-alone d fault e (keys.Insert c) new h is kept = subst (IsAlone e) (sym is) (ap (as_left (keys.Insert c)) kept)
-alone d fault e keys.NewLine new h is kept = subst (IsAlone e) (sym is) (ap (as_left keys.NewLine) kept)
-alone d fault e keys.Erase new h is kept = subst (IsAlone e) (sym is) (ap (as_left keys.Erase) kept)
-alone d fault e keys.ErasePoint new h is kept = subst (IsAlone e) (sym is) (ap (as_left keys.ErasePoint) kept)
-alone d fault e keys.Delete new h is kept = subst (IsAlone e) (sym is) (ap (as_left keys.Delete) kept)
-alone d fault e _ new h is kept = absurd (cc h)
 
 -- the answered key, while a question is on
 pub asked-key : (d : Data) (fault : Option StoreFault) (e : Editor) (key : Key) → e.pasted ≡ None → e.prompt ≢ Off → is_told_key key ≡ false
-    → after_key d fault e key ≡ as_left key (answered_question d fault (before e) (cleared e) key (answer_of key))
-asked-key d fault e key settled on told = any-key d fault e key settled told ∙ ap (as_left key) (asked-any d fault (before e) e.prompt e.search_state (cleared e) key on)
+    → refuses_replacing e key ≡ false → after_key d fault e key ≡ as_left key (after_asking d fault (before e) e.prompt (cleared e) key)
+asked-key d fault e key settled on told accepted =
+    user-key d fault e key settled told accepted ∙ ap (as_left key) (asked-any d fault (before e) e.prompt e.search_state (cleared e) key on)
 
-still-on : (e new : Editor) (key : Key) → e ≡ as_left key new → e.prompt ≢ Off → new.prompt ≢ Off
-still-on e new key is on none = on (ap (λ (x : Editor). x.prompt) is ∙ none)
+-- a key that types or erases, whose new state is known
+alone : (d : Data) (fault : Option StoreFault) (e : Editor) (key : Key) (new : Editor) → ((x : Editor) → as_left key x ≡ behind x)
+    → after_key d fault e key ≡ as_left key new → IsKeptIfOn (cleared e) new → (after_key d fault e key).prompt ≢ Off → (after_key d fault e key).prompt ≢ Overwrite
+    → IsAlone e (after_key d fault e key)
+alone d fault e key new alike is kept on over =
+    let same : (after_key d fault e key).prompt ≡ new.prompt = ap (λ (x : Editor). x.prompt) is in
+    subst (IsAlone e) (sym (is ∙ alike new)) (ap behind (kept (λ off. on (same ∙ off)) (λ it. over (same ∙ it))))
 
-answer-alone : (d : Data) (fault : Option StoreFault) (e : Editor) (key : Key) → e.pasted ≡ None → e.prompt ≢ Off → (types key || erases key) ≡ true
-    → (after_key d fault e key).prompt ≢ Off → IsAlone e (after_key d fault e key)
-answer-alone d fault e (keys.Insert c) settled on h stays =
-    let new = after_answer_letter d e.typing e.prompt (cleared e) c in
-    let is = asked-key d fault e (keys.Insert c) settled on refl in
-    alone d fault e (keys.Insert c) new h is (letter-on d e.typing e.prompt (cleared e) c (still-on (after_key d fault e (keys.Insert c)) new (keys.Insert c) is stays))
-answer-alone d fault e keys.NewLine settled on h stays =
-    let new = after_answer_letter d e.typing e.prompt (cleared e) 0xA in
-    let is = asked-key d fault e keys.NewLine settled on refl in
-    alone d fault e keys.NewLine new h is (letter-on d e.typing e.prompt (cleared e) 0xA (still-on (after_key d fault e keys.NewLine) new keys.NewLine is stays))
-answer-alone d fault e keys.Erase settled on h stays =
-    alone d fault e keys.Erase (after_shorter_answer e.prompt (cleared e)) h (asked-key d fault e keys.Erase settled on refl) (shorter-on e.prompt (cleared e))
-answer-alone d fault e keys.ErasePoint settled on h stays =
-    alone d fault e keys.ErasePoint (after_shorter_answer e.prompt (cleared e)) h (asked-key d fault e keys.ErasePoint settled on refl) (shorter-on e.prompt (cleared e))
-answer-alone d fault e keys.Delete settled on h stays =
-    alone d fault e keys.Delete (after_shorter_answer e.prompt (cleared e)) h (asked-key d fault e keys.Delete settled on refl) (shorter-on e.prompt (cleared e))
-answer-alone d fault e _ settled on h stays = absurd (cc h)
+answer-alone : (d : Data) (fault : Option StoreFault) (e : Editor) (key : Key) → e.pasted ≡ None → e.prompt ≢ Off → e.prompt ≢ Overwrite
+    → (types key || erases key) ≡ true → (after_key d fault e key).prompt ≢ Off → (after_key d fault e key).prompt ≢ Overwrite
+    → IsAlone e (after_key d fault e key)
+answer-alone d fault e (keys.Insert c) settled on other h =
+    alone d fault e (keys.Insert c) (after_asking d fault (before e) e.prompt (cleared e) (keys.Insert c)) (λ x. refl)
+    (asked-key d fault e (keys.Insert c) settled on refl refl) (answer-on d fault (before e) e.prompt (cleared e) (keys.Insert c) c refl other)
+answer-alone d fault e keys.NewLine settled on other h =
+    alone d fault e keys.NewLine (after_asking d fault (before e) e.prompt (cleared e) keys.NewLine) (λ x. refl)
+    (asked-key d fault e keys.NewLine settled on refl refl) (answer-on d fault (before e) e.prompt (cleared e) keys.NewLine 0xA refl other)
+answer-alone d fault e keys.Erase settled on other h =
+    alone d fault e keys.Erase (after_asking d fault (before e) e.prompt (cleared e) keys.Erase) (λ x. refl)
+    (asked-key d fault e keys.Erase settled on refl refl) (erase-on d fault (before e) e.prompt (cleared e) keys.Erase LastCharacter refl refl other)
+answer-alone d fault e keys.ErasePoint settled on other h =
+    alone d fault e keys.ErasePoint (after_asking d fault (before e) e.prompt (cleared e) keys.ErasePoint) (λ x. refl)
+    (asked-key d fault e keys.ErasePoint settled on refl refl) (erase-on d fault (before e) e.prompt (cleared e) keys.ErasePoint LastCharacter refl refl other)
+answer-alone d fault e keys.Delete settled on other h =
+    alone d fault e keys.Delete (after_asking d fault (before e) e.prompt (cleared e) keys.Delete) (λ x. refl)
+    (asked-key d fault e keys.Delete settled on refl refl) (erase-on d fault (before e) e.prompt (cleared e) keys.Delete Unit refl refl other)
+answer-alone d fault e _ settled on other h = absurd (cc h)
 
 -- ---- whatever is typed
 
@@ -197,32 +285,237 @@ pub record Leaves (e new : Editor) : Type 0 where
   pub pasted : new.pasted ≡ e.pasted
   pub place : new.place ≡ e.place
   pub held : new.held ≡ e.held
+  pub looked : new.read_only ≡ e.read_only
   pub hard : e.soft ≡ softness.Off → (new.mark ≡ e.mark) × (new.soft ≡ softness.Off)
 
-kept-leaves : (e new : Editor) → IsKept e new → Leaves e new
-kept-leaves e new kept = subst (Leaves e) (sym kept) (record { content = refl; pasted = refl; place = refl; held = refl; hard = λ h. (refl, h) })
+same : (e : Editor) → Leaves e e
+same e = record { content = refl; pasted = refl; place = refl; held = refl; looked = refl; hard = λ h. (refl, h) }
 
-effect-leaves : (d : Data) (fault : Option StoreFault) (was : Before) (e : Editor) (one : Effect) → e.prompt ≡ Off → (by d fault was e one).prompt ≢ Off
-    → Leaves e (by d fault was e one)
+pub leaves-trans : (e mid new : Editor) → Leaves e mid → Leaves mid new → Leaves e new
+leaves-trans e mid new a b = record {
+  content = b.content ∙ a.content;
+  pasted = b.pasted ∙ a.pasted;
+  place = b.place ∙ a.place;
+  held = b.held ∙ a.held;
+  looked = b.looked ∙ a.looked;
+  hard = λ h. let first = a.hard h in let second = b.hard first.1 in (second.0 ∙ first.0, second.1);
+}
+
+either-leaves : (e : Editor) (b : Bool) (p q : Editor) → Leaves e p → Leaves e q → Leaves e (if b then p else q)
+either-leaves e true p q h k = h
+either-leaves e false p q h k = k
+
+-- as long as a question is on
+abbrev LeavesIfOn : Editor → Editor → Type 0
+LeavesIfOn e new = new.prompt ≢ Off → Leaves e new
+
+either-leaving : (e : Editor) (b : Bool) (p q : Editor) → LeavesIfOn e p → LeavesIfOn e q → LeavesIfOn e (if b then p else q)
+either-leaving e true p q h k = h
+either-leaving e false p q h k = k
+
+off-leaving : (e new : Editor) → new.prompt ≡ Off → LeavesIfOn e new
+off-leaving e new off on = absurd (on off)
+
+saving-leaves : (e : Editor) → IsKeptSaving (Leaves e)
+saving-leaves e = record {
+  stored = λ x stored changed home message h.
+      leaves-trans e x (record x { stored = stored; changed = changed; home = home; message = message }) h
+      (record { content = refl; pasted = refl; place = refl; held = refl; looked = refl; hard = λ h. (refl, h) });
+  asked = λ x prompt answer cursor h.
+      leaves-trans e x (record x { prompt = prompt; answer = answer; input_cursor = cursor }) h
+      (record { content = refl; pasted = refl; place = refl; held = refl; looked = refl; hard = λ h. (refl, h) });
+  named = λ x name answer h.
+      leaves-trans e x (record x { name = name; answer = answer }) h
+      (record { content = refl; pasted = refl; place = refl; held = refl; looked = refl; hard = λ h. (refl, h) });
+}
+
+unasked-leaves : (e : Editor) → Leaves e (without_prompt e)
+unasked-leaves e = record { content = refl; pasted = refl; place = refl; held = refl; looked = refl; hard = λ h. (refl, h) }
+
+longer-leaves : (d : Data) (limit : ℕ) (e : Editor) (c : ℕ) → Leaves e (answer_lengthened d limit e c)
+longer-leaves d limit e c = record { content = refl; pasted = refl; place = refl; held = refl; looked = refl; hard = λ h. (refl, h) }
+
+letter-leaves : (d : Data) (fault : Option StoreFault) (prompt : Prompt) (e : Editor) (c : ℕ) → LeavesIfOn e (after_answer_letter d fault prompt e c)
+letter-leaves d fault Off e c on = same e
+letter-leaves d fault Line e c on =
+    let more = answer_lengthened d longest_line e c in
+    either-leaving e (c == 0xA) (after_going d e) (if is_line_letter c then more else e)
+    (off-leaving e (after_going d e) (going-off d (without_prompt e) (asked (chars e.answer)) refl))
+    (λ still. either-leaves e (is_line_letter c) more e (longer-leaves d longest_line e c) (same e)) on
+letter-leaves d fault Name e c on = same e
+letter-leaves d fault Code e c on =
+    let letter = code_letter c in
+    let put = after_code d (without_prompt e) (coded e.answer) in
+    let more = answer_lengthened d longest_code e letter in
+    either-leaving e (letter == 0xA) put (if is_code_letter letter then more else e)
+    (off-leaving e put (code-off d (without_prompt e) (coded e.answer) refl))
+    (λ still. either-leaves e (is_code_letter letter) more e (longer-leaves d longest_code e letter) (same e)) on
+letter-leaves d fault File e c on =
+    let more = answer_lengthened d longest_name e c in
+    either-leaves e (c == 0xA) (after_naming fault (without_prompt e)) (if is_no_letter d c then e else more)
+    (naming-keeps (Leaves e) (saving-leaves e) fault (without_prompt e) (unasked-leaves e))
+    (either-leaves e (is_no_letter d c) e more (same e) (longer-leaves d longest_name e c))
+letter-leaves d fault Overwrite e c on = same e
+
+pasted-leaving : (e new : Editor) (typing : Option Typing) → LeavesIfOn e new → LeavesIfOn e (with_paste_behind typing new)
+pasted-leaving e new None h on = h on
+pasted-leaving e new (Some typing) h on =
+    leaves-trans e new (with_typing new typing) (h on) (record { content = refl; pasted = refl; place = refl; held = refl; looked = refl; hard = λ h. (refl, h) })
+
+-- ---- the held text, and the wheel
+
+abbrev IsLeftIn : Editor → Editor → Type 0
+IsLeftIn e x = Leaves e x × (x.prompt ≡ e.prompt)
+
+either-in : (e : Editor) (b : Bool) (p q : Editor) → IsLeftIn e p → IsLeftIn e q → IsLeftIn e (if b then p else q)
+either-in e true p q h k = h
+either-in e false p q h k = k
+
+-- a character is no line end
+other-by : (e : Editor) (b : Bool) (p q : Editor) → not b ≡ true → IsLeftIn e q → IsLeftIn e (if b then p else q)
+other-by e true p q h k = absurd (cc h)
+other-by e false p q h k = k
+
+in-line-letter : (d : Data) (prompt : Prompt) (e : Editor) (c : ℕ) → prompt ≢ Off → is_in_line c ≡ true → IsLeftIn e (typed_in d prompt e.search_state e c)
+in-line-letter d Off e c on inside = absurd (on refl)
+in-line-letter d Line e c on inside =
+    let more = answer_lengthened d longest_line e c in
+    other-by e (c == 0xA) (after_going d e) (if is_line_letter c then more else e) inside
+    (either-in e (is_line_letter c) more e (longer-leaves d longest_line e c, refl) (same e, refl))
+in-line-letter d Name e c on inside = (same e, refl)
+in-line-letter d Code e c on inside =
+    let letter = code_letter c in
+    let more = answer_lengthened d longest_code e letter in
+    other-by e (letter == 0xA) (after_code d (without_prompt e) (coded e.answer)) (if is_code_letter letter then more else e) (code-letter-kept c inside)
+    (either-in e (is_code_letter letter) more e (longer-leaves d longest_code e letter, refl) (same e, refl))
+in-line-letter d File e c on inside =
+    let more = answer_lengthened d longest_name e c in
+    other-by e (c == 0xA) (after_naming None (without_prompt e)) (if is_no_letter d c then e else more) inside
+    (either-in e (is_no_letter d c) e more (same e, refl) (longer-leaves d longest_name e c, refl))
+in-line-letter d Overwrite e c on inside = (same e, refl)
+
+put-leaves : (d : Data) (e : Editor) → e.prompt ≢ Off → Leaves e (after_line_put d e)
+put-leaves d e on =
+    (in-line-keeps d (IsLeftIn e) (record {
+      cleared = λ x h.
+          (leaves-trans e x (cleared x) h.0 (record { content = refl; pasted = refl; place = refl; held = refl; looked = refl; hard = λ h. (refl, h) }), h.1);
+      told = λ x h.
+          (leaves-trans e x (record x { message = Some messages.NothingToPut }) h.0
+          (record { content = refl; pasted = refl; place = refl; held = refl; looked = refl; hard = λ h. (refl, h) }), h.1);
+      typed = λ x c inside h.
+          let one = in-line-letter d x.prompt x c (λ off. on (sym h.1 ∙ off)) inside in
+          (leaves-trans e x (typed_in d x.prompt x.search_state x c) h.0 one.0, one.1 ∙ h.1);
+    }) e (same e, refl)).0
+
+wheel-leaves : (d : Data) (was : Before) (e : Editor) (way : Vertical) → LeavesIfOn e (after_wheel d was e way)
+wheel-leaves d was e way =
+    let top = wheel_top d e way in
+    let still : Editor = record e { message = was.message } in
+    either-leaving e (shows_place d e top) (if top == row_home (rows d e) e.top then still else e) (carried d e top)
+    (λ on. either-leaves e (top == row_home (rows d e) e.top) still e
+    (record { content = refl; pasted = refl; place = refl; held = refl; looked = refl; hard = λ h. (refl, h) }) (same e))
+    (off-leaving e (carried d e top) refl)
+
+wheel-off : (d : Data) (was : Before) (e : Editor) (way : Vertical) → e.prompt ≡ Off → (after_wheel d was e way).prompt ≡ Off
+wheel-off d was e way off =
+    let top = wheel_top d e way in
+    let still : Editor = record e { message = was.message } in
+    either-off (shows_place d e top) (if top == row_home (rows d e) e.top then still else e) (carried d e top)
+    (either-off (top == row_home (rows d e) e.top) still e off off) refl
+
+-- ---- a key
+
+effect-leaves : (d : Data) (fault : Option StoreFault) (was : Before) (e : Editor) (one : Effect) → e.prompt ≡ Off → LeavesIfOn e (by d fault was e one)
 effect-leaves d fault was e AsksLine none on =
-    record { content = refl; pasted = refl; place = refl; held = refl; hard = λ h. (ap (λ s. mark_left s e.mark) h, ap soft_left h) }
-effect-leaves d fault was e AsksName none on = record { content = refl; pasted = refl; place = refl; held = refl; hard = λ h. (refl, h) }
+    record { content = refl; pasted = refl; place = refl; held = refl; looked = refl; hard = λ h. (ap (λ s. mark_left s e.mark) h, ap soft_left h) }
+effect-leaves d fault was e AsksName none on = record { content = refl; pasted = refl; place = refl; held = refl; looked = refl; hard = λ h. (refl, h) }
+effect-leaves d fault was e AsksFile none on = record { content = refl; pasted = refl; place = refl; held = refl; looked = refl; hard = λ h. (refl, h) }
+effect-leaves d fault was e AsksOverwrite none on = record { content = refl; pasted = refl; place = refl; held = refl; looked = refl; hard = λ h. (refl, h) }
+effect-leaves d fault was e Saves none on = saving-keeps (Leaves e) (saving-leaves e) fault e (same e)
+effect-leaves d fault was e (Wheels way) none on = absurd (on (wheel-off d was e way none))
 effect-leaves d fault was e one none on = absurd (on ((effect-keeps d fault was e one refl).0 ∙ none))
 
-answer-leaves : (d : Data) (fault : Option StoreFault) (was : Before) (e : Editor) (key : Key) (answer : Answer)
-    → (answered_question d fault was e key answer).prompt ≢ Off → Leaves e (answered_question d fault was e key answer)
-answer-leaves d fault was e key (Letter c) on =
-    kept-leaves e (after_answer_letter d was.typing e.prompt e c) (letter-on d was.typing e.prompt e c on)
-answer-leaves d fault was e key Shortens on = kept-leaves e (after_shorter_answer e.prompt e) (shorter-on e.prompt e)
-answer-leaves d fault was e key GoesBack on = absurd (on refl)
-answer-leaves d fault was e key Stays on = record { content = refl; pasted = refl; place = refl; held = refl; hard = λ h. (refl, h) }
-answer-leaves d fault was e key _ on =
+pressed-leaves : (d : Data) (fault : Option StoreFault) (was : Before) (e : Editor) (key : Key) → LeavesIfOn e (after_pressing d fault was (without_prompt e) key)
+pressed-leaves d fault was e key on =
     let free = without_prompt e in
-    let left = effect-leaves d fault was free (effect_of d free key) refl on in
-    record { content = left.content; pasted = left.pasted; place = left.place; held = left.held; hard = left.hard }
+    leaves-trans e free (after_pressing d fault was free key) (unasked-leaves e) (effect-leaves d fault was free (allowed_effect d free key) refl on)
+
+question-leaves : (d : Data) (fault : Option StoreFault) (was : Before) (e : Editor) (key : Key) (answer : Answer) → e.prompt ≢ Off
+    → LeavesIfOn e (answered_question d fault was e key answer)
+question-leaves d fault was e key (Letter c) asked on =
+    let new = after_answer_letter d fault e.prompt e c in
+    pasted-leaving e (if is_taken d was.typing c then new else e) (paste_behind d was.typing c)
+    (either-leaving e (is_taken d was.typing c) new e (letter-leaves d fault e.prompt e c) (λ still. same e)) on
+question-leaves d fault was e key (Erases how) asked on =
+    subst (Leaves e) (sym (shorter-on d e.prompt e how))
+    (record { content = refl; pasted = refl; place = refl; held = refl; looked = refl; hard = λ h. (refl, h) })
+question-leaves d fault was e key (Moves m) asked on = record { content = refl; pasted = refl; place = refl; held = refl; looked = refl; hard = λ h. (refl, h) }
+question-leaves d fault was e key PutsIn asked on = put-leaves d e asked
+question-leaves d fault was e key Passes asked on = same e
+question-leaves d fault was e key GoesBack asked on = absurd (on refl)
+question-leaves d fault was e key (Scrolls way) asked on = wheel-leaves d was e way on
+question-leaves d fault was e key Stays asked on = record { content = refl; pasted = refl; place = refl; held = refl; looked = refl; hard = λ h. (refl, h) }
+question-leaves d fault was e key Next asked on = pressed-leaves d fault was e key on
+question-leaves d fault was e key Previous asked on = pressed-leaves d fault was e key on
+question-leaves d fault was e key Replaces asked on = pressed-leaves d fault was e key on
+question-leaves d fault was e key Ends asked on = pressed-leaves d fault was e key on
+
+name-leaves : (d : Data) (e : Editor) (letter : ℕ) (c : Option ℕ) → LeavesIfOn e (after_name_letter d e letter c)
+name-leaves d e letter None on =
+    let ended = if letter == 0xA then without_prompt e else e in
+    either-leaves e (asks_code letter) (asking e Code) ended
+    (record { content = refl; pasted = refl; place = refl; held = refl; looked = refl; hard = λ h. (refl, h) })
+    (either-leaves e (letter == 0xA) (without_prompt e) e (unasked-leaves e) (same e))
+name-leaves d e letter (Some c) on = absurd (on (named-off d (without_prompt e) c (closing letter) refl))
+
+named-leaves : (d : Data) (fault : Option StoreFault) (was : Before) (e : Editor) (key : Key) (answer : Answer) → LeavesIfOn e (answered_name d fault was e key answer)
+named-leaves d fault was e key (Letter c) on =
+    either-leaving e (is_paste was.typing) (with_typing e was.typing) (after_name_key d e c)
+    (λ still. record { content = refl; pasted = refl; place = refl; held = refl; looked = refl; hard = λ h. (refl, h) })
+    (name-leaves d e (name_letter c) (named (name_letter c))) on
+named-leaves d fault was e key (Erases how) on = same e
+named-leaves d fault was e key (Moves m) on = pressed-leaves d fault was e key on
+named-leaves d fault was e key PutsIn on = pressed-leaves d fault was e key on
+named-leaves d fault was e key Passes on = pressed-leaves d fault was e key on
+named-leaves d fault was e key GoesBack on = absurd (on refl)
+named-leaves d fault was e key (Scrolls way) on = wheel-leaves d was e way on
+named-leaves d fault was e key Stays on = record { content = refl; pasted = refl; place = refl; held = refl; looked = refl; hard = λ h. (refl, h) }
+named-leaves d fault was e key Next on = pressed-leaves d fault was e key on
+named-leaves d fault was e key Previous on = pressed-leaves d fault was e key on
+named-leaves d fault was e key Replaces on = pressed-leaves d fault was e key on
+named-leaves d fault was e key Ends on = pressed-leaves d fault was e key on
+
+overwrite-leaves : (fault : Option StoreFault) (was : Before) (e : Editor) (answer : Answer) → LeavesIfOn e (answered_overwrite fault was e answer)
+overwrite-leaves fault was e (Letter c) on =
+    either-leaves e (is_paste was.typing) (with_typing e was.typing) (after_deciding fault (without_prompt e) c)
+    (record { content = refl; pasted = refl; place = refl; held = refl; looked = refl; hard = λ h. (refl, h) })
+    (deciding-keeps (Leaves e) (saving-leaves e) fault (without_prompt e) c (unasked-leaves e))
+overwrite-leaves fault was e Stays on = record { content = refl; pasted = refl; place = refl; held = refl; looked = refl; hard = λ h. (refl, h) }
+overwrite-leaves fault was e (Erases how) on = absurd (on refl)
+overwrite-leaves fault was e (Moves m) on = absurd (on refl)
+overwrite-leaves fault was e PutsIn on = absurd (on refl)
+overwrite-leaves fault was e Passes on = absurd (on refl)
+overwrite-leaves fault was e GoesBack on = absurd (on refl)
+overwrite-leaves fault was e (Scrolls way) on = absurd (on refl)
+overwrite-leaves fault was e Next on = absurd (on refl)
+overwrite-leaves fault was e Previous on = absurd (on refl)
+overwrite-leaves fault was e Replaces on = absurd (on refl)
+overwrite-leaves fault was e Ends on = absurd (on refl)
+
+any-leaves : (d : Data) (fault : Option StoreFault) (was : Before) (prompt : Prompt) (search_state : SearchState) (e : Editor) (key : Key) → e.prompt ≡ prompt → prompt ≢ Off
+    → LeavesIfOn e (after_any d fault was prompt search_state e key)
+any-leaves d fault was Off search_state e key is asked on = absurd (asked refl)
+any-leaves d fault was Line search_state e key is asked on = question-leaves d fault was e key (answer_of key) (λ off. let both = sym is ∙ off in cc both) on
+any-leaves d fault was Name search_state e key is asked on = named-leaves d fault was e key (without_line (answer_of key)) on
+any-leaves d fault was Code search_state e key is asked on = question-leaves d fault was e key (answer_of key) (λ off. let both = sym is ∙ off in cc both) on
+any-leaves d fault was File search_state e key is asked on = question-leaves d fault was e key (answer_of key) (λ off. let both = sym is ∙ off in cc both) on
+any-leaves d fault was Overwrite search_state e key is asked on = overwrite-leaves fault was e (answer_of key) on
 
 soft-off : (key : Key) → soft_behind key softness.Off ≡ softness.Off
 soft-off keys.Select = refl
+soft-off keys.ScrollBack = refl
+soft-off keys.ScrollOn = refl
+soft-off keys.Repaint = refl
 soft-off _ = refl
 
 pub left-leaves : (e new : Editor) (key : Key) → Leaves (cleared e) new → Leaves e (as_left key new)
@@ -231,16 +524,20 @@ left-leaves e new key left = record {
   pasted = left.pasted;
   place = left.place;
   held = left.held;
+  looked = left.looked;
   hard = λ h. let still = left.hard h in (still.0, ap (soft_behind key) still.1 ∙ soft-off key);
 }
 
-user-leaves : (d : Data) (fault : Option StoreFault) (e : Editor) (key : Key) → is_told_key key ≡ false → e.pasted ≡ None → e.prompt ≢ Off → (after_key d fault e key).prompt ≢ Off
-    → Leaves e (after_key d fault e key)
-user-leaves d fault e key told settled on stays =
-    let new = answered_question d fault (before e) (cleared e) key (answer_of key) in
-    let is = asked-key d fault e key settled on told in
-    subst (Leaves e) (sym is)
-    (left-leaves e new key (answer-leaves d fault (before e) (cleared e) key (answer_of key) (still-on (after_key d fault e key) new key is stays)))
+user-leaves : (d : Data) (fault : Option StoreFault) (e : Editor) (key : Key) → is_told_key key ≡ false → e.pasted ≡ None → e.prompt ≢ Off
+    → LeavesIfOn e (after_key d fault e key)
+user-leaves d fault e key told settled asked =
+    let refused : Editor = by d fault (before e) (cleared e) Refuses in
+    let new = after_any d fault (before e) e.prompt e.search_state (cleared e) key in
+    subst (LeavesIfOn e) (sym (any-key d fault e key settled told))
+    (λ on. left-leaves e (if refuses_replacing e key then refused else new) key
+    (either-leaving (cleared e) (refuses_replacing e key) refused new
+    (λ still. record { content = refl; pasted = refl; place = refl; held = refl; looked = refl; hard = λ h. (refl, h) })
+    (any-leaves d fault (before e) e.prompt e.search_state (cleared e) key refl asked) on))
 
 -- while a question is on PasteStart begins no paste into the text
 begun-leaves : (e : Editor) (prompt : Prompt) (search_state : SearchState) (pasted : Option (List ℕ)) → prompt ≢ Off → paste_begun prompt search_state pasted e ≡ e
@@ -248,38 +545,36 @@ begun-leaves e Off search_state pasted on = absurd (on refl)
 begun-leaves e Line search_state pasted on = refl
 begun-leaves e Name search_state pasted on = refl
 begun-leaves e Code search_state pasted on = refl
+begun-leaves e File search_state pasted on = refl
+begun-leaves e Overwrite search_state pasted on = refl
 
-typing-leaves : (e new : Editor) (typing : Typing) → new ≡ e → Leaves e (with_typing new typing)
+typing-leaves : (e new : Editor) (typing : Typing) → new ≡ e → Leaves e (unpressed (with_typing new typing))
 typing-leaves e new typing is =
-    subst (λ (x : Editor). Leaves e (with_typing x typing)) (sym is) (record { content = refl; pasted = refl; place = refl; held = refl; hard = λ h. (refl, h) })
+    subst (λ (x : Editor). Leaves e (unpressed (with_typing x typing))) (sym is)
+    (record { content = refl; pasted = refl; place = refl; held = refl; looked = refl; hard = λ h. (refl, h) })
 
-key-leaves : (d : Data) (fault : Option StoreFault) (e : Editor) (key : Key) → e.pasted ≡ None → e.prompt ≢ Off → (after_key d fault e key).prompt ≢ Off
-    → Leaves e (after_key d fault e key)
-key-leaves d fault e (keys.Size height width) settled on stays =
-    record { content = refl; pasted = refl; place = refl; held = refl; hard = λ h. (refl, h) }
-key-leaves d fault e (keys.Notice notice) settled on stays =
-    record { content = refl; pasted = refl; place = refl; held = refl; hard = λ h. (refl, h) }
-key-leaves d fault e keys.PasteStart settled on stays =
-    typing-leaves e (paste_begun e.prompt e.search_state e.pasted e) typings.Paste (begun-leaves e e.prompt e.search_state e.pasted on)
-key-leaves d fault e keys.PasteEnd settled on stays = typing-leaves e (paste_ended d e) typings.Off (none-ended d e settled)
-key-leaves d fault e key settled on stays = user-leaves d fault e key refl settled on stays
+key-leaves : (d : Data) (fault : Option StoreFault) (e : Editor) (key : Key) → e.pasted ≡ None → e.prompt ≢ Off → LeavesIfOn e (after_key d fault e key)
+key-leaves d fault e key settled on =
+    each-key d fault e (λ k new. LeavesIfOn e new)
+    (λ height width still. record { content = refl; pasted = refl; place = refl; held = refl; looked = refl; hard = λ h. (refl, h) })
+    (λ notice still. record { content = refl; pasted = refl; place = refl; held = refl; looked = refl; hard = λ h. (refl, h) })
+    (λ still. same e) (
+      λ still.
+          let begun = paste_begun e.prompt e.search_state e.pasted e in
+          either-leaves e (refuses_paste e) (unpressed (record e { message = Some messages.ViewOnly })) (unpressed (with_typing begun typings.Paste))
+          (record { content = refl; pasted = refl; place = refl; held = refl; looked = refl; hard = λ h. (refl, h) })
+          (typing-leaves e begun typings.Paste (begun-leaves e e.prompt e.search_state e.pasted on)),
+      λ still. typing-leaves e (paste_ended d e) typings.Off (none-ended d e settled),
+    )
+    (λ k small. subst (λ (new : Editor). LeavesIfOn e new) (pressed-key d fault e k small) (user-leaves d fault e k small settled on)) key
 
-pub leaves-trans : (e mid new : Editor) → Leaves e mid → Leaves mid new → Leaves e new
-leaves-trans e mid new a b = record {
-  content = b.content ∙ a.content;
-  pasted = b.pasted ∙ a.pasted;
-  place = b.place ∙ a.place;
-  held = b.held ∙ a.held;
-  hard = λ h. let first = a.hard h in let second = b.hard first.1 in (second.0 ∙ first.0, second.1);
-}
-
-stays-first : (d : Data) (e : Editor) (typed : List (Key × Option StoreFault)) → StaysAsked d e typed → e.prompt ≢ Off
+pub stays-first : (d : Data) (e : Editor) (typed : List (Key × Option StoreFault)) → StaysAsked d e typed → e.prompt ≢ Off
 stays-first d e [] h = h
 stays-first d e (key ∷ typed) h = h.0
 
 pub typed-leaves : (d : Data) (e : Editor) (typed : List (Key × Option StoreFault)) → e.pasted ≡ None → StaysAsked d e typed
     → Leaves e (after_typing d e typed)
-typed-leaves d e [] settled h = record { content = refl; pasted = refl; place = refl; held = refl; hard = λ h. (refl, h) }
+typed-leaves d e [] settled h = record { content = refl; pasted = refl; place = refl; held = refl; looked = refl; hard = λ h. (refl, h) }
 typed-leaves d e (key ∷ typed) settled h =
     let next = after_key d key.1 e key.0 in
     let one = key-leaves d key.1 e key.0 settled h.0 (stays-first d next typed h.1) in
@@ -294,6 +589,6 @@ untouched e new left = record { content_is = left.content; place_is = left.place
 
 pub questions-change-themselves : QuestionsChangeThemselves
 questions-change-themselves d e on settled = record {
-  key = λ key fault h stays. answer-alone d fault e key settled on h stays;
+  key = λ key fault h other stays over. answer-alone d fault e key settled on other h stays over;
   keys = λ typed h. untouched e (after_typing d e typed) (typed-leaves d e typed settled h);
 }

@@ -99,7 +99,7 @@ pub a_region_is_cut : held (from (codes "abcd") (Forward ∷ Mark ∷ Forward �
 unfolding unicode_segmentation unicode_width digits
 a_region_is_cut = refl
 
-pub a_cut_takes_the_mark_away : marked (from (codes "abcd") (Mark ∷ Forward ∷ Cut ∷ [])) ≡ (codes "bcd", 0, None, None)
+pub a_cut_takes_the_mark_away : marked (from (codes "abcd") (Mark ∷ Forward ∷ Cut ∷ [])) ≡ (codes "bcd", 0, None, Some messages.Cut)
 unfolding unicode_segmentation unicode_width digits
 a_cut_takes_the_mark_away = refl
 
@@ -135,7 +135,7 @@ unfolding unicode_segmentation unicode_width digits
 the_place_is_past_the_cluster = refl
 
 pub a_put_empties_the_future : marked (from (codes "ab") (Copy ∷ Insert 0x78 ∷ Undo ∷ Put ∷ Redo ∷ []))
-    ≡ (codes "abab", 2, None, Some messages.NothingToRedo)
+    ≡ (codes "ab\nab", 3, None, Some messages.NothingToRedo)
 unfolding unicode_segmentation unicode_width digits
 a_put_empties_the_future = refl
 
@@ -147,6 +147,6 @@ help_is_a_key_between_two_quits = refl
 
 pub the_control_keys_are_listed : (shown (after (start [] 2 80) (Help ∷ [])) 0).columns
     ≡ ascii_columns (codes "                                                                                "
-    ++ codes "- 1:1 ^S save ^Q quit ^Z undo ^W find ^@ mark ^X cut ^C copy ^V put F2 turn     ")
+    ++ codes "- 1:1 ^S save ^Q quit ^Z undo ^F find ^X cut ^C copy ^V paste F2 ltr/rtl        ")
 unfolding unicode_segmentation unicode_width digits
 the_control_keys_are_listed = refl

@@ -1,5 +1,5 @@
 -- Worked examples, each from a law alone: what is copied and cut, the mark, the text's ends, and a search that is given up.
-use Rattle.std.proofs.Common.{◌≡◌, ℕ, List, [], ◌∷◌, length, ◌<◌, ◌≤◌, refl, ap, ◌∙◌, arith, inl, inr}
+use Rattle.std.proofs.Common.{true, ◌≡◌, ℕ, List, [], ◌∷◌, length, ◌<◌, ◌≤◌, refl, ap, ◌∙◌, arith, inl, inr}
 use Rattle.std.specs.Prelude.{codes, Option, Some, None}
 use Rattle.std.specs.Fmt.{digits}
 use Rattle.ucd_case.proofs.Computing.{ucd_case}
@@ -17,6 +17,7 @@ use Rattle.bx_editor.specs.Region.{mark_left}
 use Rattle.bx_editor.specs.Editor.{Editor}
 use Rattle.bx_editor.specs.Keys.{after_key}
 use Rattle.bx_editor.specs.Functions.{after_keys}
+use Rattle.bx_editor.specs.PasteLaws.{cuts_in}
 use Rattle.bx_editor_laws.specs.Laws.{hard_mark, after_typing, CopyPutsTwice, GivingUpGoesBack, GoesToBothEnds, IsGivenUp, MarkTwiceIsNothing, PutRestoresCut, StaysOn}
 use Rattle.bx_editor.proofs.Computed.{tables, start, after}
 
@@ -45,7 +46,7 @@ copy_puts_two_letters law =
     let less : 0 < 2 = omega arith in
     let within : 2 ≤ 3 = omega arith in
     let fit : 5 ≤ largest_text = omega arith in
-    let done = law tables two_of_three refl refl refl (record { some = less; inside = within }) fit in
+    let done = law tables two_of_three refl refl refl refl refl (record { some = less; inside = within }) fit in
     same_now (after two_of_three (Copy ∷ Put ∷ [])) (codes "ababc") 4 None done.text_is done.place_is done.mark_is
 
 -- the mark at 2, the cursor at 0: the cursor is behind the first one
@@ -58,7 +59,7 @@ copy_puts_before law =
     let less : 0 < 2 = omega arith in
     let within : 2 ≤ 3 = omega arith in
     let fit : 5 ≤ largest_text = omega arith in
-    let done = law tables from_behind refl refl refl (record { some = less; inside = within }) fit in
+    let done = law tables from_behind refl refl refl refl refl (record { some = less; inside = within }) fit in
     same_now (after from_behind (Copy ∷ Put ∷ [])) (codes "ababc") 2 None done.text_is done.place_is done.mark_is
 
 -- the text is as before, and the cursor at the end of what was cut, whichever end it was at
@@ -68,39 +69,26 @@ put_restores_two_letters law =
     let less : 0 < 2 = omega arith in
     let within : 2 ≤ 3 = omega arith in
     let fit : 3 ≤ largest_text = omega arith in
-    let done = law tables from_behind refl (record { some = less; inside = within }) fit refl in
+    let done = law tables from_behind refl refl (record { some = less; inside = within }) fit refl in
     same_now (after from_behind (Cut ∷ Put ∷ [])) (codes "abc") 2 None done.text_is done.place_is done.mark_is
-
--- with no mark a line is cut
-abbrev in_the_first_line : Editor
-in_the_first_line = after (start (codes "ab\nc") 3 30) (Forward ∷ [])
-
-pub put_restores_a_line : PutRestoresCut → now (after in_the_first_line (Cut ∷ Put ∷ [])) ≡ (codes "ab\nc", 3, None)
-unfolding unicode_segmentation unicode_width digits
-put_restores_a_line law =
-    let less : 0 < 3 = omega arith in
-    let within : 3 ≤ 4 = omega arith in
-    let fit : 4 ≤ largest_text = omega arith in
-    let done = law tables in_the_first_line refl (record { some = less; inside = within }) fit refl in
-    same_now (after in_the_first_line (Cut ∷ Put ∷ [])) (codes "ab\nc") 3 None done.text_is done.place_is done.mark_is
 
 -- ---- Mark
 
-module _ (law : MarkTwiceIsNothing) (d : Data) (e : Editor) (settled : e.pasted ≡ None) where
+module _ (law : MarkTwiceIsNothing) (d : Data) (e : Editor) (settled : e.pasted ≡ None) (out : cuts_in e.prompt e.search_state ≡ true) where
   -- whatever the editor and the tables
   no_mark_is_left : e.mark ≡ None → (after_keys d None e (Mark ∷ Mark ∷ [])).mark ≡ None
-  no_mark_is_left none = ap (λ (x : Editor). x.mark) ((law d e settled).here (inl none)) ∙ none
+  no_mark_is_left none = ap (λ (x : Editor). x.mark) ((law d e settled out).here (inl none)) ∙ none
 
   the_mark_is_there_again : e.mark ≡ Some e.place → (after_keys d None e (Mark ∷ Mark ∷ [])).mark ≡ Some e.place
-  the_mark_is_there_again there = ap (λ (x : Editor). x.mark) ((law d e settled).here (inr there)) ∙ there
+  the_mark_is_there_again there = ap (λ (x : Editor). x.mark) ((law d e settled out).here (inr there)) ∙ there
 
   the_place_is_the_same : e.mark ≡ None → (after_keys d None e (Mark ∷ Mark ∷ [])).place ≡ e.place
-  the_place_is_the_same none = ap (λ (x : Editor). x.place) ((law d e settled).here (inl none))
+  the_place_is_the_same none = ap (λ (x : Editor). x.place) ((law d e settled out).here (inl none))
 
 -- a mark at 0 is gone after Mark twice at 2
 pub a_mark_elsewhere_is_gone : MarkTwiceIsNothing → now (after two_of_three (Mark ∷ Mark ∷ [])) ≡ (codes "abc", 2, None)
 unfolding unicode_segmentation unicode_width digits
-a_mark_elsewhere_is_gone law = ap now ((law tables two_of_three refl).elsewhere 0 refl (λ same. absurd (omega (arith, same))))
+a_mark_elsewhere_is_gone law = ap now ((law tables two_of_three refl refl).elsewhere 0 refl (λ same. absurd (omega (arith, same))))
 
 -- ---- the text's ends
 

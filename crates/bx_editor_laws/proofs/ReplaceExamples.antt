@@ -12,7 +12,7 @@ use Rattle.bx_keys.specs.declared.key.Key.TheVariants.{Cancel, NewLine, PasteSta
 use Rattle.bx_editor.specs.declared.search_state.SearchPurpose.{SearchPurpose}
 use Rattle.bx_editor.specs.declared.search_state.SearchPurpose.TheVariants as purposes
 use Rattle.bx_editor.specs.declared.message.Message.{Message}
-use Rattle.bx_editor.specs.declared.message.Message.TheVariants.{FromStart, FromEnd, NotFound, Pasting, Replaced}
+use Rattle.bx_editor.specs.declared.message.Message.TheVariants.{FromStart, FromEnd, NoLetter, NotFound, Replaced}
 use Rattle.bx_editor.specs.declared.search_state.SearchState.{SearchState}
 use Rattle.bx_editor.specs.declared.search_state.SearchState.TheVariants.{Off, Begun, Typed, WithBegun, WithTyped, Replacing}
 use Rattle.bx_editor.specs.Editor.{Editor}
@@ -237,15 +237,15 @@ pub a_letter_takes_the_old_replacements_place : (from (codes "abab") (showing (c
 unfolding unicode_segmentation unicode_width digits
 a_letter_takes_the_old_replacements_place = refl
 
-pub an_erase_takes_it_whole : typed (codes "abab") (showing (codes "a") (codes "xy") ++ (Copy ∷ Replace ∷ enter ∷ Erase ∷ [])) ≡ (WithTyped, purposes.Replace, [])
+pub an_erase_takes_its_last_letter : typed (codes "abab") (showing (codes "a") (codes "xy") ++ (Copy ∷ Replace ∷ enter ∷ Erase ∷ [])) ≡ (WithTyped, purposes.Replace, codes "x")
 unfolding unicode_segmentation unicode_width digits
-an_erase_takes_it_whole = refl
+an_erase_takes_its_last_letter = refl
 
 pub without_letters_nothing_is_asked : asked (codes "abab") (Replace ∷ enter ∷ Replace ∷ []) ≡ (Begun, purposes.Replace, 0, None)
 unfolding unicode_segmentation unicode_width digits
 without_letters_nothing_is_asked = refl
 
-pub a_query_without_letters : asked (codes "abab") (Replace ∷ Insert 0x301 ∷ enter ∷ []) ≡ (Typed, purposes.Replace, 0, None)
+pub a_query_without_letters : asked (codes "abab") (Replace ∷ Insert 0x301 ∷ enter ∷ []) ≡ (Typed, purposes.Replace, 0, Some NoLetter)
 unfolding unicode_segmentation unicode_width digits
 a_query_without_letters = refl
 
@@ -329,7 +329,7 @@ pub a_paste_asks_nothing : asked (codes "abab") (Replace ∷ PasteStart ∷ Inse
 unfolding unicode_segmentation unicode_width digits
 a_paste_asks_nothing = refl
 
-pub a_paste_shows_no_match : typed (codes "abab") (Replace ∷ Insert 0x62 ∷ enter ∷ PasteStart ∷ enter ∷ Insert 0x78 ∷ enter ∷ Insert 0x79 ∷ PasteEnd ∷ []) ≡ (WithTyped, purposes.Replace, codes "xy")
+pub a_paste_shows_no_match : typed (codes "abab") (Replace ∷ Insert 0x62 ∷ enter ∷ PasteStart ∷ enter ∷ Insert 0x78 ∷ enter ∷ Insert 0x79 ∷ PasteEnd ∷ []) ≡ (WithBegun, purposes.Replace, [])
 unfolding unicode_segmentation unicode_width digits
 a_paste_shows_no_match = refl
 
@@ -337,9 +337,9 @@ pub a_paste_replaces_nothing : replaced (codes "abab") (showing (codes "b") (cod
 unfolding unicode_segmentation unicode_width digits
 a_paste_replaces_nothing = refl
 
-pub a_paste_ends_a_search_to_find : asked (codes "abab") (Find ∷ PasteStart ∷ Insert 0x62 ∷ enter ∷ []) ≡ (Off, purposes.Find, 1, Some Pasting)
+pub a_paste_ends_no_search : asked (codes "abab") (Find ∷ PasteStart ∷ Insert 0x62 ∷ enter ∷ []) ≡ (Typed, purposes.Find, 1, None)
 unfolding unicode_segmentation unicode_width digits unicode_normalization ucd_case
-a_paste_ends_a_search_to_find = refl
+a_paste_ends_no_search = refl
 
 -- ---- the next match
 

@@ -57,6 +57,14 @@ b_stands_at_one law =
 abbrev at_b : Editor
 at_b = showing (codes "abcb") (codes "b") (codes "XY")
 
+b_place : at_b.place ≡ 1
+unfolding unicode_segmentation unicode_width digits
+b_place = refl
+
+b_at : place_at (rows tables at_b) at_b.at ≡ 1
+unfolding unicode_segmentation unicode_width digits
+b_at = refl
+
 b_is_shown : IsShowing tables at_b
 unfolding unicode_segmentation unicode_width digits
 b_is_shown = record {
@@ -64,8 +72,9 @@ b_is_shown = record {
   replacement = (codes "XY", (refl, refl));
   unasked = refl;
   settled = refl;
+  writes = refl;
   shown = refl;
-  stands = record { purpose_is = refl; here = ((omega arith, λ inside high. absurd (omega (arith, high))), refl); place_is = refl };
+  stands = record { purpose_is = refl; here = ((omega arith, λ inside high. absurd (omega (arith, high))), refl); place_is = b_place ∙ sym b_at };
 }
 
 pub enter_puts_xy_in : EnterReplaces → let e = after at_b (enter ∷ []) in (e.content.text ≡ codes "aXYcb") × (e.count ≡ 1)
@@ -83,6 +92,7 @@ alef_is_shown = record {
   replacement = (codes "z", (refl, refl));
   unasked = refl;
   settled = refl;
+  writes = refl;
   shown = refl;
   stands = record { purpose_is = refl; here = ((omega arith, λ inside high. omega arith), refl); place_is = refl };
 }
@@ -128,11 +138,11 @@ the_next_b_is_at_three law =
 
 pub xy_is_taken_back : ReplacedComesBack → let e = after at_b (enter ∷ UndoRun ∷ []) in (e.content.text ≡ codes "abcb") × (e.place ≡ 1)
 unfolding unicode_segmentation unicode_width digits
-xy_is_taken_back law = let back = law tables at_b enter refl refl refl (inl refl) (omega arith) in (back.text_is, back.unmarked.place_is)
+xy_is_taken_back law = let back = law tables at_b enter refl refl refl refl (inl refl) (omega arith) in (back.text_is, back.unmarked.place_is)
 
 pub both_are_taken_back : ReplacedComesBack → let e = after at_b (Replace ∷ UndoRun ∷ []) in (e.content.text ≡ codes "abcb") × (e.place ≡ 1)
 unfolding unicode_segmentation unicode_width digits
-both_are_taken_back law = let back = law tables at_b Replace refl refl refl (inr refl) (omega arith) in (back.text_is, back.unmarked.place_is)
+both_are_taken_back law = let back = law tables at_b Replace refl refl refl refl (inr refl) (omega arith) in (back.text_is, back.unmarked.place_is)
 
 -- alef and bet with points, for alef and bet with others
 abbrev at_points : Editor
@@ -153,6 +163,7 @@ points_are_shown = record {
   replacement = (0x5d0 ∷ 0x5d1 ∷ [], (refl, refl));
   unasked = refl;
   settled = refl;
+  writes = refl;
   shown = refl;
   stands = record { purpose_is = refl; here = ((omega arith, λ inside high. omega arith), refl); place_is = points_place ∙ sym points_at };
 }
@@ -187,6 +198,7 @@ both_are_shown = record {
   replacement = (codes "x", (refl, refl));
   unasked = refl;
   settled = refl;
+  writes = refl;
   shown = refl;
   stands = record { purpose_is = refl; here = ((omega arith, λ inside high. absurd (omega (arith, high))), refl); place_is = refl };
 }

@@ -15,6 +15,8 @@ use Rattle.bx_editor.specs.Keys.{after_key}
 use Rattle.bx_editor_laws.specs.ReplaceLaws.{ReplacedComesBack}
 use Rattle.bx_editor.specs.Replacing.{after_ending, at_match, match_stop, matches_on, next_match, on_from, with_matches_replaced}
 use Rattle.bx_editor_laws.specs.RunLaws.{IsBackBefore}
+use Rattle.bx_editor.specs.declared.questions.answers.Prompt.TheVariants as prompts
+use Rattle.bx_editor_laws.proofs.KeyEnds.{DoesWork}
 use Rattle.bx_editor_laws.proofs.OneRun.{goes-back, removal-begins, IsOneRun, IsOver, Nothing}
 use Rattle.bx_editor_laws.proofs.MatchReplaced.{each-replaces}
 
@@ -66,46 +68,50 @@ module _ (d : Data) (first e : Editor) (h : Nothing first e) where
   all-in-run stop n new false = inl h
   all-in-run stop n new true = let goes = replaces stop n new in inr (record { more = goes.more; over = goes.over; start = goes.start })
 
--- ---- no paste begins
+-- ---- no paste begins, nothing is asked, and the text may be changed
 
-pub exchange-settled : (d : Data) (e : Editor) (start stop : ℕ) (new : List ℕ) → (with_exchange d e start stop new).pasted ≡ e.pasted
-exchange-settled d e start stop new = refl
+abbrev IsOpen : Editor → Type 0
+IsOpen e = (e.pasted ≡ None) × ((e.prompt ≡ prompts.Off) × (e.read_only ≡ false))
 
-pub match-settled : (d : Data) (e : Editor) (o : Option ℕ) → (at_match d e o).pasted ≡ e.pasted
-match-settled d e None = refl
-match-settled d e (Some at) = refl
+match-open : (d : Data) (e : Editor) (o : Option ℕ) → IsOpen e → IsOpen (at_match d e o)
+match-open d e None h = h
+match-open d e (Some at) h = h
 
-module _ (d : Data) (e : Editor) (settled : e.pasted ≡ None) where
-  pub one-settled : (room : Bool) → let now = with_matches_replaced d e (match_stop d e) e.replacement 1 in
-      (if room then on_from d (e.at + length e.replacement) now else record e { message = Some TextFull }).pasted ≡ None
-  one-settled false = settled
-  one-settled true =
+module _ (d : Data) (e : Editor) (h : IsOpen e) where
+  one-open : (room : Bool) → let now = with_matches_replaced d e (match_stop d e) e.replacement 1 in
+      IsOpen (if room then on_from d (e.at + length e.replacement) now else record e { message = Some TextFull })
+  one-open false = h
+  one-open true =
       let now = with_matches_replaced d e (match_stop d e) e.replacement 1 in
-      match-settled d now (next_match d now (e.at + length e.replacement)) ∙ exchange-settled d e e.at (match_stop d e) e.replacement ∙ settled
+      match-open d now (next_match d now (e.at + length e.replacement)) h
 
-  pub all-settled : (stop n : ℕ) (new : List ℕ) (room : Bool)
-      → (if room then after_ending (with_matches_replaced d e stop new n) else record e { message = Some TextFull }).pasted ≡ None
-  all-settled stop n new false = settled
-  all-settled stop n new true = exchange-settled d e e.at stop new ∙ settled
+  all-open : (stop n : ℕ) (new : List ℕ) (room : Bool)
+      → IsOpen (if room then after_ending (with_matches_replaced d e stop new n) else record e { message = Some TextFull })
+  all-open stop n new false = h
+  all-open stop n new true = h
 
 -- ---- the law
 
-came-back : (d : Data) (first e : Editor) → e.pasted ≡ None → InRun first e → length first.content.past < length e.content.past → IsBackBefore first (after_key d None e UndoRun)
-came-back d first e settled (inl h) more = absurd (omega (arith, more, ap length h.1.1))
-came-back d first e settled (inr h) more = goes-back d first e settled h
+works : (e : Editor) → IsOpen e → DoesWork e
+works e h = record { settled = h.0; other = λ over. let both = sym h.1.0 ∙ over in cc both; writes = h.1.1 }
+
+came-back : (d : Data) (first e : Editor) → DoesWork e → InRun first e → length first.content.past < length e.content.past → IsBackBefore first (after_key d None e UndoRun)
+came-back d first e working (inl h) more = absurd (omega (arith, more, ap length h.1.1))
+came-back d first e working (inr h) more = goes-back d first e working h
 
 pub replaced-comes-back : ReplacedComesBack
-replaced-comes-back d e key unasked shown settled does more =
+replaced-comes-back d e key unasked shown settled writes does more =
     let was = cleared e in
     let all = matches_on d e in
     let stop = last_stop e.at all in
     let new = swapped e.at e.content.text e.replacement all in
     let none : Nothing e was = (refl, (refl, refl)) in
-    let unpasted = each-replaces (λ (x : Editor). x.pasted ≡ None) d e key settled unasked shown does (λ typing. settled)
-    (λ typing. one-settled d was settled (fits e.content.text e.at (match_stop d e) e.replacement))
-    (all-settled d was settled stop (length all) new (fits e.content.text e.at stop new)) in
-    came-back d e (after_key d None e key) unpasted
-    (each-replaces (InRun e) d e key settled unasked shown does (λ typing. inl none)
+    let open-was : IsOpen was = (settled, (unasked, writes)) in
+    let left = each-replaces IsOpen d e key settled unasked shown writes does (λ typing. open-was)
+    (λ typing. one-open d was open-was (fits e.content.text e.at (match_stop d e) e.replacement))
+    (all-open d was open-was stop (length all) new (fits e.content.text e.at stop new)) in
+    came-back d e (after_key d None e key) (works (after_key d None e key) left)
+    (each-replaces (InRun e) d e key settled unasked shown writes does (λ typing. inl none)
     (λ typing. one-in-run d e was none (fits e.content.text e.at (match_stop d e) e.replacement))
     (all-in-run d e was none stop (length all) new (fits e.content.text e.at stop new)))
     more

@@ -1,6 +1,6 @@
 -- Worked examples: undo groups, from the definitions and each from a law alone.
 use Rattle.std.proofs.Common.{◌≡◌, ℕ, ◌<◌, ◌≤◌, Bool, true, false, List, [], ◌∷◌, ◌++◌, length, map, replicate, refl, ap, inr, arith}
-use Rattle.std.specs.Prelude.{codes, Option, Some, None}
+use Rattle.std.specs.Prelude.{codes, ◌==◌, ◌&&◌, not, Option, Some, None}
 use Rattle.std.specs.Fmt.{digits}
 use Rattle.std.proofs.lemmas.List.Elements.{All-cons, All-nil}
 use Rattle.ucd_case.proofs.Computing.{ucd_case}
@@ -146,9 +146,9 @@ pub without_an_edit_the_mark_stays : (after (start (codes "ab") 5 40) (Forward �
 unfolding unicode_segmentation unicode_width digits
 without_an_edit_the_mark_stays = refl
 
-pub a_paste_ends_a_search : edited (codes "ab") (Find ∷ PasteStart ∷ letters (codes "b\nyz") ++ PasteEnd ∷ []) ≡ (codes "ayzb", 3)
+pub a_paste_in_a_search_is_no_edit : edited (codes "ab") (Find ∷ PasteStart ∷ letters (codes "b\nyz") ++ PasteEnd ∷ []) ≡ (codes "ab", 1)
 unfolding unicode_segmentation unicode_width digits unicode_normalization ucd_case
-a_paste_ends_a_search = refl
+a_paste_in_a_search_is_no_edit = refl
 
 -- ---- what counts as changed
 
@@ -186,13 +186,13 @@ pub once_it_is_lost_nothing_leads_to_it : (told [] (letters (codes "ab") ++ Save
 unfolding unicode_segmentation unicode_width digits
 once_it_is_lost_nothing_leads_to_it = refl
 
-abbrev with_a_failed_save : StoreFault → List (Key × Option StoreFault)
-with_a_failed_save fault = (Insert 0x78, None) ∷ (Save, Some fault) ∷ (UndoRun, None) ∷ []
+-- a save that fails, and no other program wrote the file
+abbrev with_a_failed_save : List (Key × Option StoreFault)
+with_a_failed_save = (Insert 0x78, None) ∷ (Save, Some (record { cause = None })) ∷ (UndoRun, None) ∷ []
 
-pub a_failed_save_stores_nothing : (fault : StoreFault)
-    → (after_typing tables (start (codes "ab") 5 40) (with_a_failed_save fault)).changed ≡ false
+pub a_failed_save_stores_nothing : (after_typing tables (start (codes "ab") 5 40) with_a_failed_save).changed ≡ false
 unfolding unicode_segmentation unicode_width digits
-a_failed_save_stores_nothing fault = refl
+a_failed_save_stores_nothing = refl
 
 -- ---- from the laws
 
@@ -202,18 +202,18 @@ behind_a_word = after (start [] 5 40) (letters (codes "abc"))
 pub a_run_is_three_undos : RunKeysAreSteps → let e = after behind_a_word (UndoRun ∷ []) in (e.content.text ≡ []) × (e.place ≡ 0)
 unfolding unicode_segmentation unicode_width digits
 a_run_is_three_undos law =
-    let many = (law tables behind_a_word refl).undo.many (λ none. let three : 3 ≡ 0 = ap length none in cc three) in
+    let many = (law tables behind_a_word refl (λ over. cc over) refl).undo.many (λ none. let three : 3 ≡ 0 = ap length none in cc three) in
     (ap (λ (e : Editor). e.content.text) many, ap (λ (e : Editor). e.place) many)
 
 pub back_at_the_opened_text_it_does_not : RunKeysAreSteps → (after behind_a_word (UndoRun ∷ [])).changed ≡ false
 unfolding unicode_segmentation unicode_width digits
 back_at_the_opened_text_it_does_not law =
-    ap (λ (e : Editor). e.changed) ((law tables behind_a_word refl).undo.many (λ none. let three : 3 ≡ 0 = ap length none in cc three))
+    ap (λ (e : Editor). e.changed) ((law tables behind_a_word refl (λ over. cc over) refl).undo.many (λ none. let three : 3 ≡ 0 = ap length none in cc three))
 
 pub without_an_edit_the_message_is_that_of_undo : RunKeysAreSteps
     → (after (start (codes "a") 5 40) (UndoRun ∷ [])).message ≡ Some NothingToUndo
 unfolding unicode_segmentation unicode_width digits
-without_an_edit_the_message_is_that_of_undo law = ap (λ (e : Editor). e.message) ((law tables (start (codes "a") 5 40) refl).undo.none refl)
+without_an_edit_the_message_is_that_of_undo law = ap (λ (e : Editor). e.message) ((law tables (start (codes "a") 5 40) refl (λ over. cc over) refl).undo.none refl)
 
 abbrev typed : List Key → List (Key × Option StoreFault)
 typed keys = map (λ key. (key, None)) keys
@@ -224,7 +224,7 @@ unfolding unicode_segmentation unicode_width digits
 undone_and_made_again law =
     let some : 0 < 5 = omega arith in
     let all : 5 ≤ 5 = omega arith in
-    ap (λ (t : Edited). t.text) ((law tables [] 5 40 Auto (typed two_words) refl).redo (some, all, inr refl))
+    ap (λ (t : Edited). t.text) ((law tables [] 5 40 Auto (typed two_words) refl (λ over. cc over)).redo (some, all, inr refl))
 
 pub a_word_and_its_blank_are_taken_back : WordIsARun
     → (after (start (codes "x") 5 40) (letters (codes "ab ") ++ UndoRun ∷ [])).content.text ≡ codes "x"
@@ -238,14 +238,16 @@ a_word_and_its_blank_are_taken_back law =
       are_letters = All-cons IsLetter 0x61 (0x62 ∷ []) refl (All-cons IsLetter 0x62 [] refl (All-nil IsLetter));
       are_blanks = All-cons IsBlank 0x20 [] refl (All-nil IsBlank);
     } in
-    (law tables (start (codes "x") 5 40) (codes "ab") (codes " ") refl refl refl refl word fit).text_is
+    let IsTyped = λ (c : ℕ). ((c == 0x9) && not ((start (codes "x") 5 40).tab_width == 0)) ≡ false in
+    let no-tabs = All-cons IsTyped 0x61 (0x62 ∷ 0x20 ∷ []) refl (All-cons IsTyped 0x62 (0x20 ∷ []) refl (All-cons IsTyped 0x20 [] refl (All-nil IsTyped))) in
+    (law tables (start (codes "x") 5 40) (codes "ab") (codes " ") refl refl refl refl refl word no-tabs fit).text_is
 
 pub unchanged_at_the_saved_text : UnchangedIsStored
     → (after (start [] 5 40) (saved_in_the_middle ++ UndoRun ∷ UndoRun ∷ [])).content.text ≡ codes "ab"
 unfolding unicode_segmentation unicode_width digits
 unchanged_at_the_saved_text law = law tables [] 5 40 Auto (typed (saved_in_the_middle ++ UndoRun ∷ UndoRun ∷ [])) refl
 
-pub unchanged_at_the_opened_text : UnchangedIsStored → (fault : StoreFault)
-    → (after_typing tables (start (codes "ab") 5 40) (with_a_failed_save fault)).content.text ≡ codes "ab"
+pub unchanged_at_the_opened_text : UnchangedIsStored
+    → (after_typing tables (start (codes "ab") 5 40) with_a_failed_save).content.text ≡ codes "ab"
 unfolding unicode_segmentation unicode_width digits
-unchanged_at_the_opened_text law fault = law tables (codes "ab") 5 40 Auto (with_a_failed_save fault) refl
+unchanged_at_the_opened_text law = law tables (codes "ab") 5 40 Auto with_a_failed_save refl

@@ -7,7 +7,7 @@ use Rattle.unicode_normalization.proofs.Computing.{unicode_normalization}
 use Rattle.unicode_segmentation.proofs.Computing.{unicode_segmentation}
 use Rattle.unicode_width.proofs.Computing.{unicode_width}
 use Rattle.bx_keys.specs.declared.key.Key.{Key}
-use Rattle.bx_keys.specs.declared.key.Key.TheVariants.{Insert, Erase, Delete, Forward, Right, Save, Quit, Repaint, Size, Mark, Copy, Cut, Find, FindBack, TextEnd}
+use Rattle.bx_keys.specs.declared.key.Key.TheVariants.{Insert, Erase, Delete, Forward, Left, Save, Quit, Repaint, Size, Mark, Copy, Cut, Find, FindBack, TextEnd}
 use Rattle.bx_editor.specs.declared.message.Message.{Message}
 use Rattle.bx_editor.specs.declared.message.Message.TheVariants.{FromStart, FromEnd, NotFound, Unsaved}
 use Rattle.bx_editor.specs.declared.search_state.SearchState.TheVariants.{Off}
@@ -79,9 +79,9 @@ pub a_shorter_query_begins_again : sought (from (codes "ab ac") (finding (codes 
 unfolding unicode_segmentation unicode_width digits unicode_normalization ucd_case
 a_shorter_query_begins_again = refl
 
-pub delete_shortens_it_too : sought (from (codes "abab") (finding (codes "ab") ++ (Find ∷ Delete ∷ []))) ≡ (0, codes "a", None)
+pub delete_at_its_end_removes_nothing : sought (from (codes "abab") (finding (codes "ab") ++ (Find ∷ Delete ∷ []))) ≡ (2, codes "ab", None)
 unfolding unicode_segmentation unicode_width digits unicode_normalization ucd_case
-delete_shortens_it_too = refl
+delete_at_its_end_removes_nothing = refl
 
 pub an_empty_query_finds_nothing : sought (from (codes "ab") (Forward ∷ finding (codes "b") ++ (Erase ∷ Erase ∷ Find ∷ FindBack ∷ []))) ≡ (1, [], None)
 unfolding unicode_segmentation unicode_width digits unicode_normalization ucd_case
@@ -138,13 +138,17 @@ pub such_a_copy_holds_nothing : (from (codes "abc") (Forward ∷ Mark ∷ findin
 unfolding unicode_segmentation unicode_width digits unicode_normalization ucd_case
 such_a_copy_holds_nothing = refl
 
-pub an_arrow_ends_it_and_moves : (from (codes "abc") (finding (codes "b") ++ (Right ∷ []))).place ≡ 2
-unfolding unicode_segmentation unicode_width digits unicode_normalization ucd_case
-an_arrow_ends_it_and_moves = refl
+-- the place, and the one in the query
+abbrev places_of : Editor → ℕ × ℕ
+places_of e = (e.place, e.input_cursor)
 
-pub cut_ends_it_and_cuts : (from (codes "abxc") (TextEnd ∷ Mark ∷ finding (codes "a") ++ (Cut ∷ []))).content.text ≡ []
+pub an_arrow_moves_in_the_query : places_of (from (codes "abc") (finding (codes "b") ++ (Left ∷ []))) ≡ (1, 0)
 unfolding unicode_segmentation unicode_width digits unicode_normalization ucd_case
-cut_ends_it_and_cuts = refl
+an_arrow_moves_in_the_query = refl
+
+pub cut_does_nothing_in_it : (from (codes "abxc") (TextEnd ∷ Mark ∷ finding (codes "a") ++ (Cut ∷ []))).content.text ≡ codes "abxc"
+unfolding unicode_segmentation unicode_width digits unicode_normalization ucd_case
+cut_does_nothing_in_it = refl
 
 pub a_save_ends_it : (from (codes "abc") (finding (codes "c") ++ (Save ∷ letters (codes "x")))).content.text ≡ codes "abxc"
 unfolding unicode_segmentation unicode_width digits unicode_normalization ucd_case

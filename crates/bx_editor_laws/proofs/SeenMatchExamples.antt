@@ -86,7 +86,7 @@ pub the_replacement_is_seen : status 16 (Replace ∷ letters (codes "b") ++ (ent
 unfolding unicode_segmentation unicode_width digits
 the_replacement_is_seen = refl
 
-pub the_keys_of_replacing : status 50 (showing (codes "b") (codes "x")) ≡ normal (codes "- 1:2 Enter replace ^W next F4 all ^C end         ")
+pub the_keys_of_replacing : status 50 (showing (codes "b") (codes "x")) ≡ normal (codes "- 1:2 Enter replace F3 next F4 rest ^C end        ")
 unfolding unicode_segmentation unicode_width digits
 the_keys_of_replacing = refl
 

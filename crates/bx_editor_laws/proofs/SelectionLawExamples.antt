@@ -182,15 +182,15 @@ unfolding unicode_segmentation unicode_width digits
 two_are_a_selection =
     let some : 1 < 3 = omega arith in
     let inside : 3 ≤ 4 = omega arith in
-    record { no_question = refl; no_search = refl; no_paste = refl; soft = λ off. cc off; part = record { some = some; inside = inside } }
+    record { no_question = refl; no_search = refl; no_paste = refl; writes = refl; soft = λ off. cc off; part = record { some = some; inside = inside } }
 
 pub the_move_takes_it_off : MoveTakesSelectionOff → (after two_selected (Forward ∷ [])).mark ≡ None
 unfolding unicode_segmentation unicode_width digits
-the_move_takes_it_off law = (law tables two_selected Forward refl refl).old refl
+the_move_takes_it_off law = (law tables two_selected Forward refl (λ over. cc over) refl tt refl).old refl
 
 pub behind_select_it_stays : MoveTakesSelectionOff → (after two_selected (Select ∷ Forward ∷ [])).mark ≡ Some 1
 unfolding unicode_segmentation unicode_width digits
-behind_select_it_stays law = (law tables two_selected Forward refl refl).selecting
+behind_select_it_stays law = (law tables two_selected Forward refl (λ over. cc over) refl tt refl).selecting refl
 
 pub a_word_key_removes_it_alone : SelectionIsRemoved → (after two_selected (DeleteWord ∷ [])).content.text ≡ codes "ad"
 unfolding unicode_segmentation unicode_width digits
@@ -204,7 +204,7 @@ a_letter_stands_in_its_place law =
 
 pub a_search_takes_it_off : SeekingTakesSelectionOff → (after two_selected (Find ∷ [])).mark ≡ None
 unfolding unicode_segmentation unicode_width digits
-a_search_takes_it_off law = (law tables two_selected Find refl refl refl).old refl
+a_search_takes_it_off law = (law tables two_selected Find refl refl (λ over. cc over) refl (λ is. refl)).old refl
 
 pub a_replaced_one_comes_back : SelectionComesBack → let e = after two_selected (Insert 0x78 ∷ UndoRun ∷ []) in (e.content.text ≡ codes "abcd") × (e.place ≡ 3)
 unfolding unicode_segmentation unicode_width digits

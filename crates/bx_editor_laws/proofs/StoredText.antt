@@ -1,53 +1,64 @@
 -- Whatever is typed, past and future stay chains of texts, and what counts as unchanged is the text that was stored last.
-use Rattle.std.proofs.Common.{◌≡◌, ℕ, ◌+◌, Bool, true, false, List, [], ◌∷◌, length, refl, sym, ap, subst, arith, if◌then◌else◌}
-use Rattle.std.specs.Prelude.{◌&&◌, ◌||◌, ◌==◌, not, encode_utf8, Option, Some, None, is_none}
+use Rattle.std.proofs.Common.{◌≡◌, ◌∙◌, ℕ, ◌+◌, Bool, true, false, List, [], ◌∷◌, length, refl, sym, ap, subst, arith, if◌then◌else◌}
+use Rattle.std.specs.Prelude.{◌&&◌, ◌||◌, ◌==◌, not, chars, encode_utf8, Option, Some, None, is_none, is_some}
+use Rattle.std.proofs.lemmas.Bool.{not-true}
 use Rattle.std.proofs.lemmas.Bool.Decides.{nat_tests}
 use Rattle.bx_common.specs.declared.base.Base.{Base}
 use Rattle.bx_keys.specs.declared.key.Key.{Key}
-use Rattle.bx_keys.specs.declared.key.Key.TheVariants.{Insert, Repaint, Save}
+use Rattle.bx_keys.specs.declared.key.Key.TheVariants.{Fill, Insert, Notice, PasteEnd, PasteStart, Repaint, Replace, Save, Size}
+use Rattle.bx_store.specs.declared.cause.SaveCause.{SaveCause}
 use Rattle.bx_store.specs.declared.store.StoreFault.{StoreFault}
 use Rattle.bx_text.specs.declared.change.Change.{Change}
-use Rattle.bx_text.specs.Edits.{Edit, Edited}
-use Rattle.bx_document.specs.History.{next_changes, stepped_times}
+use Rattle.bx_text.specs.Edits.{Edit, Edited, fits, fits_both, inserted, splice}
+use Rattle.bx_text.specs.index.Paragraphs.{is_separator}
+use Rattle.bx_document.specs.History.{stepped_times}
 use Rattle.bx_document.specs.declared.history.HistoryStep.{HistoryStep}
 use Rattle.bx_document.specs.declared.history.HistoryStep.TheVariants as steps
-use Rattle.bx_editor.specs.undo_groups.Groups.{goes_on, goes_on_removing, after_removal, kind_of}
-use Rattle.bx_editor.specs.declared.undo_groups.typing.Kind.{Kind}
-use Rattle.bx_editor.specs.declared.undo_groups.typing.Kind.TheVariants as kinds
-use Rattle.bx_editor.specs.declared.undo_groups.typing.Removal.{Removal}
-use Rattle.bx_editor.specs.declared.undo_groups.typing.Typing.{Typing}
-use Rattle.bx_text.specs.Edits.{inserted, splice}
 use Rattle.bx_ucd.specs.Data.{Data}
+use Rattle.bx_view.specs.declared.moves.Vertical.{Vertical}
+use Rattle.bx_view.specs.Moves.{row_home}
+use Rattle.bx_editor.specs.declared.answer.Answer.{Answer}
+use Rattle.bx_editor.specs.declared.answer.Answer.TheVariants as answers
+use Rattle.bx_editor.specs.declared.input_line.Erasure.{Erasure}
 use Rattle.bx_editor.specs.declared.questions.answers.Prompt.{Prompt}
 use Rattle.bx_editor.specs.declared.questions.answers.Prompt.TheVariants as prompts
+use Rattle.bx_editor.specs.declared.questions.line.Target.{Target}
 use Rattle.bx_editor.specs.declared.search_state.SearchPurpose.TheVariants as purposes
 use Rattle.bx_editor.specs.declared.message.Message.TheVariants as messages
 use Rattle.bx_editor.specs.declared.search_state.SearchState.{SearchState}
-use Rattle.bx_editor.specs.declared.search_state.SearchState.TheVariants as search_states
-use Rattle.bx_editor.specs.declared.cursor.Soft.{Soft}
-use Rattle.bx_editor.specs.declared.cursor.Soft.TheVariants as softness
-use Rattle.bx_editor.specs.Asking.{without_prompt, with_wrap}
-use Rattle.bx_editor.specs.Editor.{Editor, after_redo, after_quit, after_save, after_step, after_undo, at_start, cleared, place_after}
-use Rattle.bx_editor.specs.Editor.{stored_behind, with_exchange, with_insertion, with_removal, by_group, is_changed_at}
-use Rattle.bx_editor.specs.Editor.{group_goal, group_length}
-use Rattle.bx_editor.specs.Effects.{Effect, Types, BeginsLine, Puts, Removes, RemovesWord, Steps, StepsGroup, Goes, GoesByRows, Marks, Selects}
-use Rattle.bx_editor.specs.Effects.{Unmarks, Copies, Cuts, Seeks, SeeksNext, Saves, Quits, Turns, Helps, AsksLine, AsksName, Tells, Rests, Before, before, by}
-use Rattle.bx_editor.specs.Erasing.{after_erasing, after_erasing_word, after_removing, removed_on}
-use Rattle.bx_editor.specs.Keys.{Answer, Letter, Shortens, GoesBack, Stays, Ends, after_any, after_asking, after_in_paste, after_key, after_press, after_pressing, after_user}
-use Rattle.bx_editor.specs.Keys.{answer_of, answered, answered_match, answered_replacement, answered_question, effect_of, is_save}
+use Rattle.bx_editor.specs.declared.search_state.SearchState.TheVariants.{Off, Begun, Typed, WithBegun, WithTyped, Replacing}
+use Rattle.bx_editor.specs.declared.undo_groups.typing.Typing.{Typing}
+use Rattle.bx_editor.specs.declared.undo_groups.typing.Typing.TheVariants as typings
+use Rattle.bx_editor.specs.Answering.{answer_of, without_line}
+use Rattle.bx_editor.specs.Asking.{after_answer_letter, after_code, after_erasing_answer, after_going, after_name_key, after_name_letter, after_named}
+use Rattle.bx_editor.specs.Asking.{after_wrapping, answer_lengthened, answer_line, asking, gone_to, is_code_prompt, is_of_last, longest_code, longest_line}
+use Rattle.bx_editor.specs.Asking.{spans_lines, with_answer, with_character, with_wrap, without_prompt}
+use Rattle.bx_editor.specs.Before.{Before, before}
+use Rattle.bx_editor.specs.Editor.{Editor, after_redo, after_step, after_undo, at_start, by_group, cleared, group_goal, group_length, is_changed_at}
+use Rattle.bx_editor.specs.Editor.{place_after, rows, stored_behind, with_exchange, with_insertion, with_notice, with_removal, with_size, with_typing}
+use Rattle.bx_document.specs.History.{next_changes}
+use Rattle.bx_editor.specs.Effects.{Effect, Wheels, Seeks, SeeksNext, SeeksPrevious, Saves, AsksLine, AsksName, AsksFile, AsksOverwrite, Refuses, by}
+use Rattle.bx_editor.specs.InputLines.{after_taking, ends_line, erases_nothing, is_no_letter, line_shortened}
+use Rattle.bx_editor.specs.Keys.{after_any, after_key, after_pressing, allowed_effect, answered, answered_match, answered_name, answered_overwrite}
+use Rattle.bx_editor.specs.Keys.{answered_question, answered_replacement, as_left, changes_text, effect_of, ends_name, ends_paste, is_save, is_typed, overwrites}
+use Rattle.bx_editor.specs.Keys.{after_in_paste, after_press, after_user, refuses_replacing, saving_by, saving_of}
+use Rattle.bx_editor.specs.LinePuts.{after_line_put, typed_in}
+use Rattle.bx_editor.specs.Putting.{after_paste_end, after_paste_start, is_paste, paste_ended, with_line_put}
+use Rattle.bx_editor.specs.Region.{is_empty, line, region, unselected}
+use Rattle.bx_editor.specs.RowMoves.{after_wheel, carried, shows_place, wheel_top}
+use Rattle.bx_editor.specs.Saving.{Saving, after_deciding, after_naming, after_save, after_saving, asked_over, asking_name, asking_over, can_save, confirms, is_changed}
+use Rattle.bx_editor.specs.Saving.{is_nameless, longest_name, own_saving, saving_over, saving_under, takes_name, with_answered_name, without_answer}
+use Rattle.bx_editor.specs.Search.{after_beginning, next_or_start, search_back, search_from, sought, sought_alone, without_search}
+use Rattle.bx_editor.specs.undo_groups.Groups.{after_insertion, kind_of}
+use Rattle.bx_editor.specs.questions.Answers.{asked, is_line_letter}
+use Rattle.bx_editor.specs.questions.KeyLetters.{code_letter, name_letter}
+use Rattle.bx_editor.specs.questions.Names.{asks_code, closing, coded, is_code_letter, named}
 use Rattle.bx_editor_laws.specs.Laws.{after_typing}
-use Rattle.bx_editor.specs.Putting.{paste_ended, without_paste, after_character, after_new_line, after_put, has_room, line_end, put_in}
-use Rattle.bx_editor.specs.Putting.{typed, with_selection_replaced, yielding}
-use Rattle.bx_editor.specs.Region.{after_copy, after_cut, bytes_in, held_message, is_at_mark, is_empty, line, region, taken, with_held}
-use Rattle.bx_editor.specs.Region.{is_selection, selecting, unselected}
-use Rattle.bx_editor_laws.specs.RunLaws.{stored_last, UnchangedIsStored}
-use Rattle.bx_editor.specs.Search.{after_beginning, next_or_start, search_from, sought, without_search}
-use Rattle.bx_editor_laws.proofs.PasteEnded.{ended-by, none-ended}
 use Rattle.bx_editor_laws.proofs.Chains.{Chain, opened-chain, redone-chain, replaced-chain, stored-chain, undone-chain}
-use Rattle.bx_editor.proofs.EffectsKept.{IsKeptPasting, start-keeps}
+use Rattle.bx_editor_laws.proofs.LineKept.{in-line-keeps}
+use Rattle.bx_editor.proofs.EffectsKept as kept
 use Rattle.bx_editor.proofs.InSearch.{each-key}
-use Rattle.bx_editor.proofs.QuestionSteps.{IsKept, letter-keeps, shorter-keeps}
-use Rattle.bx_editor.proofs.Searches.{IsKeptSeeking, is_end, match-keeps, replacement-keeps, query-keeps}
+use Rattle.bx_editor.proofs.Searches.{IsKeptSeeking, is_end, match-keeps, query-keeps, replacement-keeps, typed-in-search}
 use Rattle.bx_editor.proofs.TwoEdits.{stored-of-two}
 use Rattle.bx_editor.proofs.RunSteps.{run-ends}
 
@@ -59,7 +70,7 @@ pub record Follows (stored : List ℕ) (t : Edited) (at : Option ℕ) (changed :
 abbrev pub Has : List ℕ → Editor → Type 0
 Has stored e = Follows stored e.content e.stored e.changed
 
-either : (b : Bool) (s : List ℕ) (p q : Editor) → Has s p → Has s q → Has s (if b then p else q)
+pub either : (b : Bool) (s : List ℕ) (p q : Editor) → Has s p → Has s q → Has s (if b then p else q)
 either true s p q h k = h
 either false s p q h k = k
 
@@ -77,60 +88,13 @@ removal s d e start stop on h = record {
   unchanged = λ is. absurd (cc is);
 }
 
-replacing : (s : List ℕ) (d : Data) (e : Editor) (new : List ℕ) → Has s e → Has s (with_selection_replaced d e new)
-replacing s d e new h =
-    let without = with_removal d e (region e).0 (region e).1 false in
-    insertion s d without new true (removal s d e (region e).0 (region e).1 false h)
-
-putting : (s : List ℕ) (d : Data) (e : Editor) (new : List ℕ) (on : Bool) → Has s e → Has s (put_in d e new on)
-putting s d e new on h =
-    let two = with_selection_replaced d e new in
-    let one = with_insertion d e new on in
-    either (has_room e new) s (if is_selection e then two else one) (record e { message = Some messages.TextFull })
-    (either (is_selection e) s two one (replacing s d e new h) (insertion s d e new on h)) h
-
-typing-has : (s : List ℕ) (d : Data) (typing : Typing) (e : Editor) (new : List ℕ) (kind : Kind) → Has s e → Has s (typed d typing e new kind)
-typing-has s d typing e new kind h = putting s d e new (goes_on typing kind) h
-
-new-line : (s : List ℕ) (d : Data) (typing : Typing) (e : Editor) → Has s e → Has s (after_new_line d typing e)
-new-line s d typing e h = typing-has s d typing e (line_end d (splice e.content.text (yielding e).0 (yielding e).1 [])) kinds.Separator h
-
-character : (s : List ℕ) (d : Data) (typing : Typing) (e : Editor) (c : ℕ) → Has s e → Has s (after_character d typing e c)
-character s d typing e c h = typing-has s d typing e (encode_utf8 c) (kind_of (d.class c)) h
-
-put : (s : List ℕ) (d : Data) (e : Editor) → Has s e → Has s (after_put d e)
-put s d e h =
-    either (length e.held == 0) s (record e { message = Some messages.NothingToPut }) (put_in d e e.held false) h (putting s d e e.held false h)
-
-instead : (s : List ℕ) (d : Data) (e other : Editor) → Has s e → Has s other → Has s (if is_selection e then with_removal d e (region e).0 (region e).1 false else other)
-instead s d e other h k =
-    either (is_selection e) s (with_removal d e (region e).0 (region e).1 false) other (removal s d e (region e).0 (region e).1 false h) k
-
-erasing : (s : List ℕ) (d : Data) (typing : Typing) (how : Removal) (e : Editor) (start stop : ℕ) → Has s e
-    → Has s (after_erasing d typing how e start stop)
-erasing s d typing how e start stop h =
-    let on = goes_on_removing typing how in
-    instead s d e (removed_on d typing how e start stop) h
-    (either (start == stop) s e (record (with_removal d e start stop on) { typing = after_removal how }) h (removal s d e start stop on h))
-
-erasing-word : (s : List ℕ) (d : Data) (e : Editor) (start stop : ℕ) → Has s e → Has s (after_erasing_word d e start stop)
-erasing-word s d e start stop h =
-    instead s d e (after_removing d e start stop false) h (either (start == stop) s e (with_removal d e start stop false) h (removal s d e start stop false h))
-
-copy : (s : List ℕ) (d : Data) (e : Editor) → Has s e → Has s (after_copy d e)
-copy s d e h =
-    let none : Editor = record e { mark = None; soft = softness.Off; message = Some messages.NothingToCopy } in
-    let one = with_held e (bytes_in e (line d e)) messages.LineCopied in
-    either (is_empty (region e)) s (if is_empty (line d e) then none else one) (with_held e (bytes_in e (region e)) messages.Copied)
-    (either (is_empty (line d e)) s none one h h) h
-
-cut : (s : List ℕ) (d : Data) (e : Editor) → Has s e → Has s (after_cut d e)
-cut s d e h =
-    let part = taken d e in
-    let held = bytes_in e part in
-    either (is_empty part) s (after_copy d e)
-    (record (with_removal d e (part.0) (part.1) false) { held = held; message = held_message e.clipboard held e.message }) (copy s d e h)
-    (removal s d e (part.0) (part.1) false h)
+lined : (s : List ℕ) (d : Data) (e : Editor) (new : List ℕ) → Has s e → Has s (with_line_put d e new)
+lined s d e new h =
+    let start = (line d e).0 in
+    record {
+      chain = replaced-chain s e.content e.stored start start new e.place ((with_line_put d e new).place) h.chain;
+      unchanged = λ is. absurd (cc is);
+    }
 
 -- ---- steps
 
@@ -160,81 +124,6 @@ run-by s way e (Some change) h =
     let chain = stepped-chain s e.stored way (group_length way e) e.content h.chain in
     record { chain = chain; unchanged = λ is. (chain.is_at (group_goal way e) (unchanged-at (group_goal way e) e.stored is)).now (run-ends way e) }
 
--- ---- each effect
-
-select : (s : List ℕ) (e : Editor) (mark : Option ℕ) (soft : Soft) → Has s e → Has s (selecting e mark soft)
-select s e None softness.Off h = h
-select s e None softness.Fresh h = h
-select s e None softness.Old h = h
-select s e (Some mark) softness.Off h = h
-select s e (Some mark) softness.Fresh h = h
-select s e (Some mark) softness.Old h = h
-
-save : (s : List ℕ) (e : Editor) (fault : Option StoreFault) → Has s e → Has (if is_none fault then e.content.text else s) (after_save e fault)
-save s e None h = record { chain = stored-chain s e.content e.stored h.chain; unchanged = λ is. refl }
-save s e (Some fault) h = h
-
-quit : (s : List ℕ) (e : Editor) (again : Bool) → Has s e → Has s (after_quit e again)
-quit s e again h =
-    either (not e.changed || again) s (record e { quit_before = true; ended = true }) (record e { quit_before = true; message = Some messages.Unsaved }) h h
-
-abbrev is_saves : Effect → Bool
-is_saves Saves = true
-is_saves _ = false
-
-abbrev stored_by : List ℕ → Editor → Bool → Option StoreFault → List ℕ
-stored_by s e saves fault = if saves && is_none fault then e.content.text else s
-
-effect : (s : List ℕ) (d : Data) (fault : Option StoreFault) (was : Before) (e : Editor) (one : Effect) → Has s e
-    → Has (stored_by s e (is_saves one) fault) (by d fault was e one)
-effect s d fault was e (Types c) h = character s d was.typing e c h
-effect s d fault was e BeginsLine h = new-line s d was.typing e h
-effect s d fault was e Puts h = put s d e h
-effect s d fault was e (Removes how start stop) h = erasing s d was.typing how e start stop h
-effect s d fault was e (RemovesWord start stop) h = erasing-word s d e start stop h
-effect s d fault was e (Steps way) h = step s way e h
-effect s d fault was e (StepsGroup way) h = run-by s way e (next_changes way (group_length way e) e.content) h
-effect s d fault was e (Goes place) h = h
-effect s d fault was e (GoesByRows way n) h = h
-effect s d fault was e Marks h =
-    either (is_at_mark e.mark e.place) s (record e { mark = None; soft = softness.Off; message = Some messages.MarkOff })
-    (record e { mark = Some e.place; soft = softness.Off; message = Some messages.MarkSet }) h h
-effect s d fault was e Selects h = select s e e.mark e.soft h
-effect s d fault was e Unmarks h = h
-effect s d fault was e Copies h = copy s d e h
-effect s d fault was e Cuts h = cut s d e h
-effect s d fault was e (Seeks purpose) h = h
-effect s d fault was e SeeksNext h =
-    let free = unselected e in
-    either (length (sought d free) == 0) s (after_beginning purposes.Find free) (search_from d (next_or_start d free) (record free { search_state = search_states.Off; purpose = purposes.Find })) h h
-effect s d fault was e Saves h = save s e fault h
-effect s d fault was e Quits h = quit s e was.again h
-effect s d fault was e Turns h = h
-effect s d fault was e Helps h = h
-effect s d fault was e AsksLine h = h
-effect s d fault was e AsksName h = h
-effect s d fault was e Tells h = h
-effect s d fault was e Rests h = h
-
--- ---- each key
-
--- Save alone saves, and it ends a search
-each : (d : Data) (e : Editor) (key : Key) → (is_saves (effect_of d e key) ≡ is_save key) × ((is_end (answer_of key) || not (is_save key)) ≡ true)
-each d e Save = (refl, refl)
-each d e _ = (refl, refl)
-
-no-save : (s : List ℕ) (e new : Editor) (fault : Option StoreFault) (saves : Bool) → (false || not saves) ≡ true → Has s new
-    → Has (stored_by s e saves fault) new
-no-save s e new fault true not-it h = absurd (cc not-it)
-no-save s e new fault false it h = h
-
-pressed : (s : List ℕ) (d : Data) (fault : Option StoreFault) (was : Before) (e : Editor) (key : Key) → Has s e
-    → Has (stored_by s e (is_save key) fault) (after_pressing d fault was e key)
-pressed s d fault was e key h =
-    subst (λ b. Has (stored_by s e b fault) (by d fault was e (effect_of d e key))) ((each d e key).0) (effect s d fault was e (effect_of d e key) h)
-
--- ---- in a search
-
 exchange : (s : List ℕ) (d : Data) (e : Editor) (start stop : ℕ) (new : List ℕ) → Has s e → Has s (with_exchange d e start stop new)
 exchange s d e start stop [] h = removal s d e start stop false h
 exchange s d e start stop (b ∷ bs) h =
@@ -244,37 +133,6 @@ exchange s d e start stop (b ∷ bs) h =
     let first = removal s d e start stop false h in
     let second = replaced-chain s cut.content cut.stored start start (b ∷ bs) cut.place two.place first.chain in
     record { chain = subst (Chain s two.content) (stored-of-two n e.stored) second; unchanged = λ is. absurd (cc is) }
-
-sought-has : (s : List ℕ) (d : Data) → IsKeptSeeking d (Has s)
-sought-has s d = record {
-  exchanged = exchange s d;
-  told = λ e message h. h;
-  placed = λ e place h. h;
-  typed = λ e typing h. h;
-  begun = λ e h. h;
-  sought = λ e search_state purpose origin query other at count h. h;
-}
-
-module _ (s : List ℕ) (d : Data) (fault : Option StoreFault) (was : Before) (e : Editor) (key : Key) (h : Has s e) where
-  query : (one : Answer) → (is_end one || not (is_save key)) ≡ true → Has (stored_by s e (is_save key) fault) (answered d fault was e key one)
-  query Ends it = pressed s d fault was e key h
-  query one it =
-      no-save s e (answered d fault was e key one) fault (is_save key) it
-      (query-keeps d (Has s) (sought-has s d) fault was e key one h (λ ends. absurd (cc ends)))
-
-  replacement : (one : Answer) → (is_end one || not (is_save key)) ≡ true → Has (stored_by s e (is_save key) fault) (answered_replacement d fault was e key one)
-  replacement Ends it = pressed s d fault was (without_search e) key h
-  replacement one it =
-      no-save s e (answered_replacement d fault was e key one) fault (is_save key) it
-      (replacement-keeps d (Has s) (sought-has s d) fault was e key one h h (λ ends. absurd (cc ends)))
-
-  at-match : (one : Answer) → (is_end one || not (is_save key)) ≡ true → Has (stored_by s e (is_save key) fault) (answered_match d fault was e key one)
-  at-match Ends it = pressed s d fault was (without_search e) key h
-  at-match one it =
-      no-save s e (answered_match d fault was e key one) fault (is_save key) it
-      (match-keeps d (Has s) (sought-has s d) fault was e key one h h (λ ends. absurd (cc ends)))
-
--- ---- in a question
 
 -- two edits of one undo group
 wrapping : (s : List ℕ) (d : Data) (e : Editor) (opener closer : List ℕ) → Has s e → Has s (with_wrap d e opener closer)
@@ -290,83 +148,243 @@ wrapping s d e opener closer h =
     let second = replaced-chain s one (stored_behind n e.stored) start start opener between (with_wrap d e opener closer).place first in
     record { chain = subst (Chain s two) (stored-of-two n e.stored) second; unchanged = λ is. absurd (cc is) }
 
-question : (s : List ℕ) (d : Data) → IsKept d (Has s)
-question s d = record {
-  inserted = λ e new h. insertion s d e new false h;
-  wrapped = wrapping s d;
-  told = λ e message h. h;
-  placed = λ e place h. h;
-  typed = λ e typing h. h;
-  asked = λ e prompt answer h. h;
-}
+-- ---- what leaves the stored text
 
-question-answer : (s : List ℕ) (d : Data) (fault : Option StoreFault) (was : Before) (e : Editor) (key : Key) (one : Answer)
-    → (is_end one || not (is_save key)) ≡ true → Has s e → Has (stored_by s e (is_save key) fault) (answered_question d fault was e key one)
-question-answer s d fault was e key (Letter c) it h =
-    no-save s e (answered_question d fault was e key (Letter c)) fault (is_save key) it
-    (letter-keeps d (Has s) (question s d) was.typing e.prompt e c h)
-question-answer s d fault was e key Shortens it h =
-    no-save s e (answered_question d fault was e key Shortens) fault (is_save key) it (shorter-keeps d (Has s) (question s d) e.prompt e h)
-question-answer s d fault was e key GoesBack it h = no-save s e (answered_question d fault was e key GoesBack) fault (is_save key) it h
-question-answer s d fault was e key Stays it h = no-save s e (answered_question d fault was e key Stays) fault (is_save key) it h
-question-answer s d fault was e key _ it h = pressed s d fault was (without_prompt e) key h
+module _ (s : List ℕ) (d : Data) where
+  pub pressing : kept.IsKeptPressing d (Has s)
+  pressing = record {
+    inserted = λ e new on h. insertion s d e new on h;
+    lined = λ e new h. lined s d e new h;
+    removed = λ e start stop on h. removal s d e start stop on h;
+    stepped = λ way e h. step s way e h;
+    run = λ way e h. run-by s way e (next_changes way (group_length way e) e.content) h;
+    quit = λ e ended message h. h;
+    based = λ e base h. h;
+    gone = λ e place goal h. h;
+    pointed = λ e clicks pressed h. h;
+    marked = λ e mark soft held whole_line h. h;
+    told = λ e message typing h. h;
+  }
 
-asking : (s : List ℕ) (d : Data) (fault : Option StoreFault) (was : Before) (e : Editor) (key : Key) → Has s e
-    → Has (stored_by s e (is_save key) fault) (after_asking d fault was e key)
-asking s d fault was e key h = question-answer s d fault was e key (answer_of key) ((each d e key).1) h
+  pub seeks : IsKeptSeeking d (Has s)
+  seeks = record {
+    exchanged = λ e start stop new h. exchange s d e start stop new h;
+    told = λ e message h. h;
+    placed = λ e place h. h;
+    typed = λ e typing h. h;
+    sought = λ e search_state purpose origin query other at count cursor h. h;
+  }
 
-any : (s : List ℕ) (d : Data) (fault : Option StoreFault) (was : Before) (prompt : Prompt) (search_state : SearchState) (e : Editor) (key : Key) → Has s e
-    → Has (stored_by s e (is_save key) fault) (after_any d fault was prompt search_state e key)
-any s d fault was prompts.Off search_states.Off e key h = pressed s d fault was e key h
-any s d fault was prompts.Off search_states.Begun e key h = query s d fault was e key h (answer_of key) ((each d e key).1)
-any s d fault was prompts.Off search_states.Typed e key h = query s d fault was e key h (answer_of key) ((each d e key).1)
-any s d fault was prompts.Off search_states.WithBegun e key h = replacement s d fault was e key h (answer_of key) ((each d e key).1)
-any s d fault was prompts.Off search_states.WithTyped e key h = replacement s d fault was e key h (answer_of key) ((each d e key).1)
-any s d fault was prompts.Off search_states.Replacing e key h = at-match s d fault was e key h (answer_of key) ((each d e key).1)
-any s d fault was prompts.Line search_state e key h = asking s d fault was e key h
-any s d fault was prompts.Name search_state e key h = asking s d fault was e key h
-any s d fault was prompts.Code search_state e key h = asking s d fault was e key h
+  pub wheel : (was : Before) (e : Editor) (way : Vertical) → Has s e → Has s (after_wheel d was e way)
+  wheel was e way h =
+      let top = wheel_top d e way in
+      let still : Editor = record e { message = was.message } in
+      either (shows_place d e top) s (if top == row_home (rows d e) e.top then still else e) (carried d e top)
+      (either (top == row_home (rows d e) e.top) s still e h h) h
 
--- ---- in a paste
+  abbrev is_saves : Effect → Bool
+  is_saves Saves = true
+  is_saves _ = false
 
-ended : (s : List ℕ) (d : Data) (e : Editor) → Has s e → Has s (paste_ended d e)
-ended s d e h =
-    let left = without_paste e in
-    ended-by d e (Has s) h h (λ list. replacing s d left list h) (λ list. insertion s d left list false h) h
+  asking-keeps : (fault : Option StoreFault) (was : Before) (e : Editor) (one : Effect) → Has s e → kept.asks_or_seeks one ≡ true → is_saves one ≡ false
+      → Has s (by d fault was e one)
+  asking-keeps fault was e (Wheels way) h is quiet = wheel was e way h
+  asking-keeps fault was e (Seeks purpose) h is quiet = h
+  asking-keeps fault was e SeeksNext h is quiet =
+      let free = unselected e in
+      either (length (sought d free) == 0) s (after_beginning purposes.Find free) (search_from d (next_or_start d free) (sought_alone free)) h h
+  asking-keeps fault was e SeeksPrevious h is quiet =
+      let free = unselected e in
+      either (length (sought d free) == 0) s (after_beginning purposes.Find free) (search_back d (sought_alone free)) h h
+  asking-keeps fault was e Saves h is quiet = absurd (cc quiet)
+  asking-keeps fault was e AsksLine h is quiet = h
+  asking-keeps fault was e AsksName h is quiet = h
+  asking-keeps fault was e AsksFile h is quiet = h
+  asking-keeps fault was e AsksOverwrite h is quiet = h
+  asking-keeps fault was e _ h is quiet = absurd (cc is)
 
-in-paste : (s : List ℕ) (d : Data) (fault : Option StoreFault) (e : Editor) (key : Key) → Has s e
-    → Has (stored_by s (paste_ended d e) (is_save key) fault) (after_in_paste d fault e key)
-in-paste s d fault e (Insert c) h = h
-in-paste s d fault e Repaint h = any s d fault (before e) e.prompt e.search_state (cleared e) Repaint h
-in-paste s d fault e key h = let x = paste_ended d e in any s d fault (before x) x.prompt x.search_state (cleared x) key (ended s d e h)
+  saves-by : (e : Editor) (key : Key) → is_saves (effect_of d e key) ≡ is_save key
+  saves-by e Save = refl
+  saves-by e _ = refl
 
-press : (s : List ℕ) (d : Data) (fault : Option StoreFault) (e : Editor) (key : Key) (pasted : Option (List ℕ)) → e.pasted ≡ pasted → Has s e
-    → Has (stored_by s (paste_ended d e) (is_save key) fault) (after_press d fault pasted e key)
-press s d fault e key None none h =
-    subst (λ (x : Editor). Has (stored_by s x (is_save key) fault) (after_user d fault e key)) (sym (none-ended d e none))
-    (any s d fault (before e) e.prompt e.search_state (cleared e) key h)
-press s d fault e key (Some list) is h = in-paste s d fault e key h
+  allowed-by : (refuses : Bool) (one : Effect) → is_saves one ≡ false → is_saves (if refuses then Refuses else one) ≡ false
+  allowed-by true one quiet = refl
+  allowed-by false one quiet = quiet
 
-begun : (s : List ℕ) → IsKeptPasting (Has s)
-begun s = record { pasted = λ e pasted message typing h. h; lengthened = λ e pasted soft h. h }
+  -- any key but Save, where nothing is asked and sought
+  pub pressed-other : (fault : Option StoreFault) (was : Before) (e : Editor) (key : Key) → is_save key ≡ false → Has s e
+      → Has s (after_pressing d fault was e key)
+  pressed-other fault was e key quiet h =
+      let one = allowed_effect d e key in
+      kept.effect-keeps d (Has s) pressing fault was e one h
+      (λ is. asking-keeps fault was e one h is (allowed-by (changes_text key && e.read_only) (effect_of d e key) (saves-by e key ∙ quiet)))
 
-key-has : (s : List ℕ) (d : Data) (fault : Option StoreFault) (e : Editor) (key : Key) → Has s e
-    → Has (stored_by s (paste_ended d e) (is_save key) fault) (after_key d fault e key)
-key-has s d fault e key h =
-    each-key d fault e (λ k new. Has (stored_by s (paste_ended d e) (is_save k) fault) new) (λ height width. h) (λ notice. h)
-    (start-keeps (Has s) (begun s) e h, ended s d e h)
-    (λ k other. press s d fault e k e.pasted refl h) key
+-- ---- a save
 
-all-typed : (s : List ℕ) (d : Data) (e : Editor) (typed : List (Key × Option StoreFault)) → Has s e
-    → Has (stored_last d s e typed) (after_typing d e typed)
-all-typed s d e [] h = h
-all-typed s d e (key ∷ typed) h =
-    all-typed (stored_by s (paste_ended d e) (is_save key.0) key.1) d (after_key d key.1 e key.0) typed (key-has s d key.1 e key.0 h)
+-- what is stored then
+abbrev pub stored_if : Bool → List ℕ → Editor → Option StoreFault → List ℕ
+stored_if saves s e fault = if saves && is_none fault then e.content.text else s
 
-pub typed-has : (d : Data) (text : List ℕ) (height width : ℕ) (base : Base) (typed : List (Key × Option StoreFault))
-    → let start = at_start text height width base in Has (stored_last d text start typed) (after_typing d start typed)
-typed-has d text height width base typed =
-    all-typed text d (at_start text height width base) typed (record { chain = opened-chain text; unchanged = λ is. refl })
+save : (s : List ℕ) (e : Editor) (fault : Option StoreFault) → Has s e → Has (stored_if true s e fault) (after_save e fault)
+save s e None h = record { chain = stored-chain s e.content e.stored h.chain; unchanged = λ is. refl }
+save s e (Some fault) h = either (is_changed fault.cause) s (record e { prompt = prompts.Overwrite }) e h h
 
-pub unchanged-is-stored : UnchangedIsStored
-unchanged-is-stored d text height width base typed = (typed-has d text height width base typed).unchanged
+module _ (s : List ℕ) (fault : Option StoreFault) where
+  pub no-save : (saves : Bool) (e new : Editor) → saves ≡ false → Has s new → Has (stored_if saves s e fault) new
+  no-save saves e new quiet h = subst (λ b. Has (stored_if b s e fault) new) (sym quiet) h
+
+  saved : (e : Editor) (nameless : Bool) → Has s e → Has (stored_if (not nameless) s e fault) (if nameless then asking_name e else after_save e fault)
+  saved e true h = h
+  saved e false h = save s e fault h
+
+  named-save : (e : Editor) (takes : Bool) → Has s e
+      → Has (stored_if true s e fault) (after_save (if takes then with_answered_name e else without_answer e) fault)
+  named-save e true h = save s (with_answered_name e) fault h
+  named-save e false h = save s (without_answer e) fault h
+
+  pub naming : (e : Editor) (empty : Bool) → Has s e
+      → Has (stored_if (not empty) s e fault) (if empty then e else after_save (if takes_name e fault then with_answered_name e else without_answer e) fault)
+  naming e true h = h
+  naming e false h = named-save e (takes_name e fault) h
+
+  pub deciding : (e : Editor) (typing : Typing) (pasted confirmed reads nameless : Bool) → Has s e
+      → let x = without_prompt e in
+      Has (stored_if (confirmed && not pasted && not (reads || nameless)) s e fault) (
+        if pasted
+        then with_typing e typing
+        else (if confirmed then (if reads then record x { message = Some messages.ViewOnly } else (if nameless then asking_name x else after_save x fault)) else x)
+      )
+  deciding e typing true true reads nameless h = h
+  deciding e typing true false reads nameless h = h
+  deciding e typing false false reads nameless h = h
+  deciding e typing false true true nameless h = h
+  deciding e typing false true false true h = h
+  deciding e typing false true false false h = save s (without_prompt e) fault h
+
+  refused-save : (d : Data) (was : Before) (e : Editor) (reads : Bool) → Has s e
+      → Has (stored_if (not (reads || is_nameless e)) s e fault) (by d fault was e (if reads then Refuses else Saves))
+  refused-save d was e true h = h
+  refused-save d was e false h = saved e (is_nameless e) h
+
+  -- any key where nothing is asked and sought
+  pub pressed : (d : Data) (was : Before) (e : Editor) (key : Key) → Has s e
+      → Has (stored_if (is_save key && can_save e) s e fault) (after_pressing d fault was e key)
+  pressed d was e Save h = refused-save d was e e.read_only h
+  pressed d was e key h = pressed-other s d fault was e key refl h
+
+-- ---- a character of an answer
+
+other : (s : List ℕ) (b : Bool) (p q : Editor) → b ≡ false → Has s q → Has s (if b then p else q)
+other s b p q quiet k = subst (λ t. Has s (if t then p else q)) (sym quiet) k
+
+module _ (s : List ℕ) (d : Data) where
+  going : (e : Editor) (target : Option Target) → Has s e → Has s (gone_to d e target)
+  going e None h = h
+  going e (Some target) h = h
+
+  with-one : (e : Editor) (c : ℕ) → Has s e → Has s (with_character d e c)
+  with-one e c h =
+      either (fits e.content.text e.place e.place (encode_utf8 c)) s
+      (with_typing (with_insertion d e (encode_utf8 c) false) (after_insertion (kind_of (d.class c)))) (record e { message = Some messages.TextFull })
+      (insertion s d e (encode_utf8 c) false h) h
+
+  coding : (e : Editor) (code : Option ℕ) → Has s e → Has s (after_code d e code)
+  coding e None h = h
+  coding e (Some c) h = with-one e c h
+
+  -- each but a line end of a name
+  pub letter : (fault : Option StoreFault) (prompt : Prompt) (e : Editor) (c : ℕ) → (prompt ≡ prompts.File → (c == 0xA) ≡ false) → Has s e
+      → Has s (after_answer_letter d fault prompt e c)
+  letter fault prompts.Line e c inside h =
+      either (c == 0xA) s (after_going d e) (if is_line_letter c then answer_lengthened d longest_line e c else e) (going (without_prompt e) (asked (chars e.answer)) h)
+      (either (is_line_letter c) s (answer_lengthened d longest_line e c) e h h)
+  letter fault prompts.Code e c inside h =
+      let digit = code_letter c in
+      let more = answer_lengthened d longest_code e digit in
+      either (digit == 0xA) s (after_code d (without_prompt e) (coded e.answer)) (if is_code_letter digit then more else e)
+      (coding (without_prompt e) (coded e.answer) h) (either (is_code_letter digit) s more e h h)
+  letter fault prompts.File e c inside h =
+      let more = answer_lengthened d longest_name e c in
+      other s (c == 0xA) (after_naming fault (without_prompt e)) (if is_no_letter d c then e else more) (inside refl)
+      (either (is_no_letter d c) s e more h h)
+  letter fault prompts.Off e c inside h = h
+  letter fault prompts.Name e c inside h = h
+  letter fault prompts.Overwrite e c inside h = h
+
+  line-letter : (prompt : Prompt) (search_state : SearchState) (e : Editor) (c : ℕ) → (c == 0xA) ≡ false → Has s e
+      → Has s (typed_in d prompt search_state e c)
+  line-letter prompts.Off search_state e c inside h = typed-in-search d (Has s) (seeks s d) search_state e c h
+  line-letter prompts.Line search_state e c inside h = letter None prompts.Line e c (λ file. inside) h
+  line-letter prompts.Name search_state e c inside h = h
+  line-letter prompts.Code search_state e c inside h = letter None prompts.Code e c (λ file. inside) h
+  line-letter prompts.File search_state e c inside h = letter None prompts.File e c (λ file. inside) h
+  line-letter prompts.Overwrite search_state e c inside h = h
+
+  pub line-put : (e : Editor) → Has s e → Has s (after_line_put d e)
+  line-put e h =
+      in-line-keeps d (Has s) (record {
+        cleared = λ x k. k;
+        told = λ x k. k;
+        typed = λ x c inside k. line-letter x.prompt x.search_state x c (not-true (c == 0xA) inside) k;
+      }) e h
+
+  -- a character by its name
+  wrapping-one : (e : Editor) (opener closer : ℕ) → Has s e → Has s (after_wrapping d e opener closer)
+  wrapping-one e opener closer h =
+      let full : Editor = record e { message = Some messages.TextFull } in
+      let one = with_wrap d e (encode_utf8 opener) (encode_utf8 closer) in
+      let room = fits_both e.content.text (encode_utf8 opener) (encode_utf8 closer) in
+      either (spans_lines d e) s (record e { message = Some messages.MoreThanOneLine }) (if room then one else full) h
+      (either room s one full (wrapping s d e (encode_utf8 opener) (encode_utf8 closer) h) h)
+
+  named-one : (e : Editor) (c : ℕ) (closer : Option ℕ) → Has s e → Has s (after_named d e c closer)
+  named-one e c None h = with-one e c h
+  named-one e c (Some closer) h =
+      either (is_empty (region e)) s (with_character d e c) (after_wrapping d e c closer) (with-one e c h) (wrapping-one e c closer h)
+
+  pub name-letter : (e : Editor) (l : ℕ) (name : Option ℕ) → Has s e → Has s (after_name_letter d e l name)
+  name-letter e l (Some c) h = named-one (without_prompt e) c (closing l) h
+  name-letter e l None h =
+      either (asks_code l) s (asking e prompts.Code) (if l == 0xA then without_prompt e else e) h (either (l == 0xA) s (without_prompt e) e h h)
+
+  -- ---- typed or pasted
+
+  pub taking : (typing : Typing) (c : ℕ) (e new : Editor) → Has s e → Has s new → Has s (after_taking d typing c e new)
+  taking typings.Off c e new h k = k
+  taking typings.Word c e new h k = k
+  taking typings.Blanks c e new h k = k
+  taking typings.Erasing c e new h k = k
+  taking typings.Deleting c e new h k = k
+  taking typings.Paste c e new h k = either (not (ends_line d c)) s new e k h
+  taking typings.Spent c e new h k = h
+
+  -- what of a name is typed
+  module _ (fault : Option StoreFault) (e : Editor) (c : ℕ) (h : Has s e) where
+    abbrev file_letter : Bool → Editor
+    file_letter end =
+        if end then after_naming fault (without_prompt e) else (if is_no_letter d c then e else answer_lengthened d longest_name e c)
+
+    typed-file : (end : Bool) → Has (stored_if (end && true && not (length e.answer == 0)) s e fault) (file_letter end)
+    typed-file true = naming s fault (without_prompt e) (length e.answer == 0) h
+    typed-file false = either (is_no_letter d c) s e (answer_lengthened d longest_name e c) h h
+
+    pasted-file : (end separator : Bool) (typing : Typing)
+        → Has (stored_if (end && false && not (length e.answer == 0)) s e fault) (with_typing (if not (end || separator) then file_letter end else e) typing)
+    pasted-file true separator typing = h
+    pasted-file false true typing = h
+    pasted-file false false typing = typed-file false
+
+    spent-file : (end : Bool) → Has (stored_if (end && false && not (length e.answer == 0)) s e fault) (with_typing e typings.Spent)
+    spent-file true = h
+    spent-file false = h
+
+    pub file : (typing : Typing)
+        → Has (stored_if ((c == 0xA) && is_typed typing && not (length e.answer == 0)) s e fault) (after_taking d typing c e (file_letter (c == 0xA)))
+    file typings.Off = typed-file (c == 0xA)
+    file typings.Word = typed-file (c == 0xA)
+    file typings.Blanks = typed-file (c == 0xA)
+    file typings.Erasing = typed-file (c == 0xA)
+    file typings.Deleting = typed-file (c == 0xA)
+    file typings.Paste =
+        pasted-file (c == 0xA) (is_separator (d.class c)) (if ends_line d c then typings.Spent else typings.Paste)
+    file typings.Spent = spent-file (c == 0xA)

@@ -11,25 +11,18 @@ use Rattle.bx_document.specs.declared.history.HistoryStep.{HistoryStep}
 use Rattle.bx_document.specs.declared.history.HistoryStep.TheVariants as steps
 use Rattle.bx_document.specs.History.{next_changes, stepped_times}
 use Rattle.bx_ucd.specs.Data.{Data}
-use Rattle.bx_editor.specs.declared.questions.answers.Prompt.{Prompt}
 use Rattle.bx_editor.specs.declared.questions.answers.Prompt.TheVariants as prompts
-use Rattle.bx_editor.specs.declared.search_state.SearchPurpose.TheVariants as purposes
-use Rattle.bx_editor.specs.declared.search_state.SearchState.{SearchState}
 use Rattle.bx_editor.specs.declared.search_state.SearchState.TheVariants.{Off, Begun, Typed, WithBegun, WithTyped, Replacing}
 use Rattle.bx_editor.specs.declared.cursor.Soft.TheVariants as softness
-use Rattle.bx_editor.specs.Asking.{without_prompt}
-use Rattle.bx_editor.specs.Editor.{Editor, after_undo, after_redo, after_save, after_step, at_start, cleared, with_exchange}
+use Rattle.bx_editor.specs.Editor.{Editor, after_undo, after_redo, after_step, at_start, cleared, with_exchange}
 use Rattle.bx_editor.specs.Editor.{with_insertion, with_removal, by_group, group_length}
-use Rattle.bx_editor.specs.Effects.{Effect, Seeks, SeeksNext, AsksLine, AsksName, Before, before, by}
-use Rattle.bx_editor.specs.Keys.{after_any, after_asking, after_key, after_seeking, answer_of, answered_match, answered_replacement, effect_of}
 use Rattle.bx_editor.specs.Functions.{after_keys}
-use Rattle.bx_editor.specs.Search.{after_beginning, next_or_start, search_from, sought, without_search}
-use Rattle.bx_editor.specs.Region.{unselected}
 use Rattle.bx_editor_laws.specs.Laws.{after_typing, IsBackAt, IsUnmarkedAt, mark_behind, UndoGivesBack, RedoMirrorsUndo}
-use Rattle.bx_editor.proofs.EffectsKept.{IsKeptPasting, IsKeptPressing, asks_or_seeks, effect-keeps, ended-keeps, paste-end-keeps, start-keeps}
-use Rattle.bx_editor.proofs.InSearch.{any-key, behind, each-key, press-keeps}
-use Rattle.bx_editor.proofs.QuestionSteps.{IsKept, question-keeps}
-use Rattle.bx_editor.proofs.Searches.{IsKeptSeeking, match-keeps, replacement-keeps, query-keeps}
+use Rattle.bx_editor.specs.Editor.{after_group_step}
+use Rattle.bx_editor.specs.Keys.{after_key, as_left}
+use Rattle.bx_editor.proofs.EffectsKept.{run-keeps, step-keeps}
+use Rattle.bx_editor_laws.proofs.KeyEnds.{DoesWork, ended-done}
+use Rattle.bx_editor_laws.proofs.KeyKept.{IsKeptByEdits, typing-keeps}
 
 -- ---- chains of versions
 
@@ -115,247 +108,137 @@ run_has : (first : List ℕ) (step : HistoryStep) (e : Editor) (change : Option 
 run_has first step e None h = h
 run_has first step e (Some change) h = stepped_has first step (group_length step e) e.content h
 
-save_has : (first : List ℕ) (e : Editor) (fault : Option StoreFault) → HasVersions first e.content → HasVersions first (after_save e fault).content
-save_has first e None h = h
-save_has first e (Some fault) h = h
-
 -- ---- a key keeps them
 
-pressing_has : (d : Data) (first : List ℕ) → IsKeptPressing d (λ e. HasVersions first e.content)
-pressing_has d first = record {
-  inserted = insertion_has first d;
-  removed = removal_has first d;
-  stepped = step_has first;
-  run = λ step e h. run_has first step e (next_changes step (group_length step e) e.content) h;
-  saved = save_has first;
-  quit = λ e ended message h. h;
-  based = λ e base h. h;
-  gone = λ e place goal h. h;
-  marked = λ e mark soft held h. h;
-  told = λ e message typing h. h;
+-- the text has versions, and is not only looked at
+abbrev IsWritten : List ℕ → Editor → Type 0
+IsWritten first e = HasVersions first e.content × (e.read_only ≡ false)
+
+steps_write : (step : HistoryStep) (e : Editor) → e.read_only ≡ false → (after_step step e).read_only ≡ false
+steps_write step e writes = step-keeps (λ x. x.read_only ≡ false) (λ x content place changed h. h) (λ x message h. h) step e writes
+
+runs_write : (step : HistoryStep) (e : Editor) → e.read_only ≡ false → (after_group_step step e).read_only ≡ false
+runs_write step e writes = run-keeps (λ x. x.read_only ≡ false) (λ x content place changed h. h) (λ x message h. h) step e writes
+
+edits_have : (d : Data) (first : List ℕ) → IsKeptByEdits d (IsWritten first)
+edits_have d first = record {
+  inserted = λ e new on h. (insertion_has first d e new on h.0, h.1);
+  lined = λ e new h. (record { past = (refl, h.0.past); future = tt }, h.1);
+  removed = λ e start stop on h. (removal_has first d e start stop on h.0, h.1);
+  wrapped = λ e opener closer h. (record { past = (refl, (refl, h.0.past)); future = tt }, h.1);
+  exchanged = λ e start stop new h. (exchange_has first d e start stop new h.0, h.1);
+  stepped = λ step e h. (step_has first step e h.0, steps_write step e h.1);
+  run = λ step e h. (run_has first step e (next_changes step (group_length step e) e.content) h.0, runs_write step e h.1);
+  same = λ e new content looked h. (subst (HasVersions first) (sym content) h.0, looked ∙ h.1);
 }
-
-asking_has : (d : Data) (fault : Option StoreFault) (was : Before) (first : List ℕ) (e : Editor) (effect : Effect) → HasVersions first e.content
-    → asks_or_seeks effect ≡ true → HasVersions first (by d fault was e effect).content
-asking_has d fault was first e (Seeks purpose) h is = h
-asking_has d fault was first e SeeksNext h is =
-    let free = unselected e in
-    either_has (length (sought d free) == 0) first (after_beginning purposes.Find free)
-    (search_from d (next_or_start d free) (record free { search_state = Off; purpose = purposes.Find })) h h
-asking_has d fault was first e AsksLine h is = h
-asking_has d fault was first e AsksName h is = h
-asking_has d fault was first e _ h is = absurd (cc is)
-
-by_has : (d : Data) (fault : Option StoreFault) (was : Before) (first : List ℕ) (e : Editor) (effect : Effect) → HasVersions first e.content
-    → HasVersions first (by d fault was e effect).content
-by_has d fault was first e effect h =
-    effect-keeps d (λ x. HasVersions first x.content) (pressing_has d first) fault was e effect h (asking_has d fault was first e effect h)
-
--- in a search
-sought_has : (d : Data) (first : List ℕ) → IsKeptSeeking d (λ e. HasVersions first e.content)
-sought_has d first = record {
-  exchanged = λ e start stop new h. exchange_has first d e start stop new h;
-  told = λ e message h. h;
-  placed = λ e place h. h;
-  typed = λ e typing h. h;
-  begun = λ e h. h;
-  sought = λ e search_state purpose origin query other at count h. h;
-}
-
-answered_has : (d : Data) (fault : Option StoreFault) (was : Before) (first : List ℕ) (e : Editor) (key : Key) → HasVersions first e.content
-    → HasVersions first (after_seeking d fault was e key).content
-answered_has d fault was first e key h =
-    query-keeps d (λ x. HasVersions first x.content) (sought_has d first) fault was e key (answer_of key) h
-    (λ ends. by_has d fault was first e (effect_of d e key) h)
-
-other_has : (d : Data) (fault : Option StoreFault) (was : Before) (first : List ℕ) (e : Editor) (key : Key) → HasVersions first e.content
-    → HasVersions first (answered_replacement d fault was e key (answer_of key)).content
-other_has d fault was first e key h =
-    replacement-keeps d (λ x. HasVersions first x.content) (sought_has d first) fault was e key (answer_of key) h h
-    (λ ends. by_has d fault was first (without_search e) (effect_of d (without_search e) key) h)
-
-match_has : (d : Data) (fault : Option StoreFault) (was : Before) (first : List ℕ) (e : Editor) (key : Key) → HasVersions first e.content
-    → HasVersions first (answered_match d fault was e key (answer_of key)).content
-match_has d fault was first e key h =
-    match-keeps d (λ x. HasVersions first x.content) (sought_has d first) fault was e key (answer_of key) h h
-    (λ ends. by_has d fault was first (without_search e) (effect_of d (without_search e) key) h)
-
--- in a question
-question_has : (d : Data) (first : List ℕ) → IsKept d (λ e. HasVersions first e.content)
-question_has d first = record {
-  inserted = λ e new h. insertion_has first d e new false h;
-  wrapped = λ e opener closer h. record { past = (refl, (refl, h.past)); future = tt };
-  told = λ e message h. h;
-  placed = λ e place h. h;
-  typed = λ e typing h. h;
-  asked = λ e prompt answer h. h;
-}
-
-asked_has : (d : Data) (fault : Option StoreFault) (was : Before) (first : List ℕ) (e : Editor) (key : Key) → HasVersions first e.content
-    → HasVersions first (after_asking d fault was e key).content
-asked_has d fault was first e key h =
-    question-keeps d (λ x. HasVersions first x.content) (question_has d first) fault was e key (answer_of key) h
-    (by_has d fault was first (without_prompt e) (effect_of d (without_prompt e) key) h)
-
-any_has : (d : Data) (fault : Option StoreFault) (was : Before) (first : List ℕ) (prompt : Prompt) (search_state : SearchState) (e : Editor) (key : Key) → HasVersions first e.content
-    → HasVersions first (after_any d fault was prompt search_state e key).content
-any_has d fault was first prompts.Off Off e key h = by_has d fault was first e (effect_of d e key) h
-any_has d fault was first prompts.Off Begun e key h = answered_has d fault was first e key h
-any_has d fault was first prompts.Off Typed e key h = answered_has d fault was first e key h
-any_has d fault was first prompts.Off WithBegun e key h = other_has d fault was first e key h
-any_has d fault was first prompts.Off WithTyped e key h = other_has d fault was first e key h
-any_has d fault was first prompts.Off Replacing e key h = match_has d fault was first e key h
-any_has d fault was first prompts.Line search_state e key h = asked_has d fault was first e key h
-any_has d fault was first prompts.Name search_state e key h = asked_has d fault was first e key h
-any_has d fault was first prompts.Code search_state e key h = asked_has d fault was first e key h
-
--- in a paste
-pasting_has : (first : List ℕ) → IsKeptPasting (λ e. HasVersions first e.content)
-pasting_has first = record { pasted = λ e pasted message typing h. h; lengthened = λ e pasted soft h. h }
-
-key_has : (d : Data) (fault : Option StoreFault) (first : List ℕ) (e : Editor) (key : Key) → HasVersions first e.content
-    → HasVersions first (after_key d fault e key).content
-key_has d fault first e key h =
-    let P = λ (x : Editor). HasVersions first x.content in
-    each-key d fault e (λ k new. P new) (λ height width. h) (λ notice. h)
-    (start-keeps P (pasting_has first) e h, paste-end-keeps d P (pressing_has d first) (pasting_has first) e h)
-    (λ k other.
-    press-keeps d fault e P k (λ x has. any_has d fault (before x) first x.prompt x.search_state (cleared x) k has)
-    (λ x has. ended-keeps d P (pressing_has d first) (pasting_has first) x has) (λ c. h) h)
-    key
-
-typing_has : (d : Data) (first : List ℕ) (e : Editor) (typed : List (Key × Option StoreFault)) → HasVersions first e.content
-    → HasVersions first (after_typing d e typed).content
-typing_has d first e [] h = h
-typing_has d first e (key ∷ typed) h = typing_has d first (after_key d key.1 e key.0) typed (key_has d key.1 first e key.0 h)
 
 all_typed_has : (d : Data) (text : List ℕ) (height width : ℕ) (base : Base) (typed : List (Key × Option StoreFault))
-    → HasVersions text (after_typing d (at_start text height width base) typed).content
-all_typed_has d text height width base typed = typing_has d text (at_start text height width base) typed (record { past = refl; future = tt })
+    → IsWritten text (after_typing d (at_start text height width base) typed)
+all_typed_has d text height width base typed =
+    typing-keeps d (IsWritten text) (edits_have d text) (at_start text height width base) typed (record { past = refl; future = tt }, refl)
 
 -- ---- undo and redo, whether a search or a question is on or not
 
 -- an editor once a key has led to another text of its history
-abbrev stepped : Editor → Edited → ℕ → Editor
-stepped e content place = record e { content = content; place = place; mark = None; soft = softness.Off; search_state = Off; prompt = prompts.Off; changed = true }
+abbrev stepped : Key → Editor → Edited → ℕ → Editor
+stepped key e content place =
+    as_left key (record (cleared e) { content = content; place = place; mark = None; soft = softness.Off; search_state = Off; prompt = prompts.Off; changed = true })
 
-undone_is : (d : Data) (was : Before) (prompt : Prompt) (search_state : SearchState) (e : Editor) (text : List ℕ) (edit : Edit) (past future : List Edit) → e.prompt ≡ prompt
-    → after_any d None was prompt search_state (record e { content = version text (edit ∷ past) future }) Undo
-    ≡ stepped e (version edit.before.text past (edit ∷ future)) edit.before.place
-undone_is d was prompts.Off Off e text edit past future is = ap (λ a. record (stepped e (version edit.before.text past (edit ∷ future)) edit.before.place) { prompt = a }) is
-undone_is d was prompts.Off Begun e text edit past future is = ap (λ a. record (stepped e (version edit.before.text past (edit ∷ future)) edit.before.place) { prompt = a }) is
-undone_is d was prompts.Off Typed e text edit past future is = ap (λ a. record (stepped e (version edit.before.text past (edit ∷ future)) edit.before.place) { prompt = a }) is
-undone_is d was prompts.Off WithBegun e text edit past future is = ap (λ a. record (stepped e (version edit.before.text past (edit ∷ future)) edit.before.place) { prompt = a }) is
-undone_is d was prompts.Off WithTyped e text edit past future is = ap (λ a. record (stepped e (version edit.before.text past (edit ∷ future)) edit.before.place) { prompt = a }) is
-undone_is d was prompts.Off Replacing e text edit past future is = ap (λ a. record (stepped e (version edit.before.text past (edit ∷ future)) edit.before.place) { prompt = a }) is
-undone_is d was prompts.Line search_state e text edit past future is = refl
-undone_is d was prompts.Name search_state e text edit past future is = refl
-undone_is d was prompts.Code search_state e text edit past future is = refl
+undo_once : (d : Data) (e : Editor) (text : List ℕ) (edit : Edit) (past future : List Edit) → DoesWork e
+    → after_key d None (record e { content = version text (edit ∷ past) future }) Undo
+    ≡ stepped Undo e (version edit.before.text past (edit ∷ future)) edit.before.place
+undo_once d e text edit past future works =
+    ended-done d None (record e { content = version text (edit ∷ past) future }) Undo works.settled refl refl refl works.other works.writes
 
-redone_is : (d : Data) (was : Before) (prompt : Prompt) (search_state : SearchState) (e : Editor) (text : List ℕ) (edit : Edit) (past future : List Edit) → e.prompt ≡ prompt
-    → after_any d None was prompt search_state (record e { content = version text past (edit ∷ future) }) Redo
-    ≡ stepped e (version edit.after.text (edit ∷ past) future) edit.after.place
-redone_is d was prompts.Off Off e text edit past future is = ap (λ a. record (stepped e (version edit.after.text (edit ∷ past) future) edit.after.place) { prompt = a }) is
-redone_is d was prompts.Off Begun e text edit past future is = ap (λ a. record (stepped e (version edit.after.text (edit ∷ past) future) edit.after.place) { prompt = a }) is
-redone_is d was prompts.Off Typed e text edit past future is = ap (λ a. record (stepped e (version edit.after.text (edit ∷ past) future) edit.after.place) { prompt = a }) is
-redone_is d was prompts.Off WithBegun e text edit past future is = ap (λ a. record (stepped e (version edit.after.text (edit ∷ past) future) edit.after.place) { prompt = a }) is
-redone_is d was prompts.Off WithTyped e text edit past future is = ap (λ a. record (stepped e (version edit.after.text (edit ∷ past) future) edit.after.place) { prompt = a }) is
-redone_is d was prompts.Off Replacing e text edit past future is = ap (λ a. record (stepped e (version edit.after.text (edit ∷ past) future) edit.after.place) { prompt = a }) is
-redone_is d was prompts.Line search_state e text edit past future is = refl
-redone_is d was prompts.Name search_state e text edit past future is = refl
-redone_is d was prompts.Code search_state e text edit past future is = refl
+redo_once : (d : Data) (e : Editor) (text : List ℕ) (edit : Edit) (past future : List Edit) → DoesWork e
+    → after_key d None (record e { content = version text past (edit ∷ future) }) Redo
+    ≡ stepped Redo e (version edit.after.text (edit ∷ past) future) edit.after.place
+redo_once d e text edit past future works =
+    ended-done d None (record e { content = version text past (edit ∷ future) }) Redo works.settled refl refl refl works.other works.writes
+
+works_on : (key : Key) (e : Editor) (content : Edited) (place : ℕ) → DoesWork e → DoesWork (stepped key e content place)
+works_on key e content place works = record { settled = works.settled; other = λ over. cc over; writes = works.writes }
 
 none_behind : (past : List Edit) → mark_behind None past ≡ None
 none_behind [] = refl
 none_behind (edit ∷ past) = refl
 
-all_back : (d : Data) (first : List ℕ) (e : Editor) (text : List ℕ) (past future : List Edit) → e.pasted ≡ None → IsPastOf first text past
+all_back : (d : Data) (first : List ℕ) (e : Editor) (text : List ℕ) (past future : List Edit) → DoesWork e → IsPastOf first text past
     → let now : Editor = record e { content = version text past future } in IsBackAt first now (after_keys d None now (replicate (length past) Undo))
-all_back d first e text [] future settled h = record { text_is = h; past_is = refl; place_is = refl; mark_is = refl }
-all_back d first e text (edit ∷ past) future settled h =
+all_back d first e text [] future works h = record { text_is = h; past_is = refl; place_is = refl; mark_is = refl }
+all_back d first e text (edit ∷ past) future works h =
     let now : Editor = record e { content = version text (edit ∷ past) future } in
-    let taken_back : Editor = record (cleared e) { place = edit.before.place; mark = None; soft = softness.Off; search_state = Off; prompt = prompts.Off; changed = true; goal = None } in
-    let back = all_back d first taken_back edit.before.text past (edit ∷ future) settled h.1 in
-    subst (λ new. IsBackAt first now (after_keys d None new (replicate (length past) Undo)))
-    (sym (any-key d None now Undo settled refl ∙ ap behind (undone_is d (before e) e.prompt e.search_state (cleared e) text edit past future refl)))
+    let taken_back = stepped Undo e (version edit.before.text past (edit ∷ future)) edit.before.place in
+    let back =
+    all_back d first taken_back edit.before.text past (edit ∷ future)
+    (works_on Undo e (version edit.before.text past (edit ∷ future)) edit.before.place works) h.1 in
+    subst (λ new. IsBackAt first now (after_keys d None new (replicate (length past) Undo))) (sym (undo_once d e text edit past future works))
     (record { text_is = back.text_is; past_is = back.past_is; place_is = back.place_is; mark_is = back.mark_is ∙ none_behind past })
 
--- an editor of any text after one Undo, and after one Redo
-abbrev undone_once : Editor → List ℕ → Edit → List Edit → List Edit → Editor
-undone_once e text edit past future = behind (stepped (cleared e) (version edit.before.text past (edit ∷ future)) edit.before.place)
-
-abbrev redone_once : Editor → List ℕ → Edit → List Edit → List Edit → Editor
-redone_once e text edit past future = behind (stepped (cleared e) (version edit.after.text (edit ∷ past) future) edit.after.place)
-
-undo_once : (d : Data) (e : Editor) (text : List ℕ) (edit : Edit) (past future : List Edit) → e.pasted ≡ None
-    → after_key d None (record e { content = version text (edit ∷ past) future }) Undo ≡ undone_once e text edit past future
-undo_once d e text edit past future settled =
-    any-key d None (record e { content = version text (edit ∷ past) future }) Undo settled refl
-    ∙ ap behind (undone_is d (before e) e.prompt e.search_state (cleared e) text edit past future refl)
-
-redo_once : (d : Data) (e : Editor) (text : List ℕ) (edit : Edit) (past future : List Edit) → e.pasted ≡ None
-    → after_key d None (record e { content = version text past (edit ∷ future) }) Redo ≡ redone_once e text edit past future
-redo_once d e text edit past future settled =
-    any-key d None (record e { content = version text past (edit ∷ future) }) Redo settled refl
-    ∙ ap behind (redone_is d (before e) e.prompt e.search_state (cleared e) text edit past future refl)
-
-redo_back : (d : Data) (first : List ℕ) (e : Editor) (text : List ℕ) (past future : List Edit) → e.pasted ≡ None → IsPastOf first text past → past ≢ []
+redo_back : (d : Data) (first : List ℕ) (e : Editor) (text : List ℕ) (past future : List Edit) → DoesWork e → IsPastOf first text past → past ≢ []
     → (after_keys d None (record e { content = version text past future }) (Undo ∷ Redo ∷ [])).content ≡ version text past future
-redo_back d first e text [] future settled h some = absurd (some refl)
-redo_back d first e text (edit ∷ past) future settled h some =
-    ap (λ new. (after_key d None new Redo).content) (undo_once d e text edit past future settled)
-    ∙ ap (λ (new : Editor). new.content) (any-key d None (undone_once e text edit past future) Redo settled refl)
+redo_back d first e text [] future works h some = absurd (some refl)
+redo_back d first e text (edit ∷ past) future works h some =
+    let undone = version edit.before.text past (edit ∷ future) in
+    ap (λ new. (after_key d None new Redo).content) (undo_once d e text edit past future works)
+    ∙ ap (λ (new : Editor). new.content)
+    (redo_once d (stepped Undo e undone edit.before.place) edit.before.text edit past future (works_on Undo e undone edit.before.place works))
     ∙ ap (λ t. version t (edit ∷ past) future) h.0
 
-undo_back : (d : Data) (e : Editor) (text : List ℕ) (past future : List Edit) → e.pasted ≡ None → IsFutureOf text future → future ≢ []
+undo_back : (d : Data) (e : Editor) (text : List ℕ) (past future : List Edit) → DoesWork e → IsFutureOf text future → future ≢ []
     → (after_keys d None (record e { content = version text past future }) (Redo ∷ Undo ∷ [])).content ≡ version text past future
-undo_back d e text past [] settled h some = absurd (some refl)
-undo_back d e text past (edit ∷ future) settled h some =
-    ap (λ new. (after_key d None new Undo).content) (redo_once d e text edit past future settled)
-    ∙ ap (λ (new : Editor). new.content) (any-key d None (redone_once e text edit past future) Undo settled refl)
+undo_back d e text past [] works h some = absurd (some refl)
+undo_back d e text past (edit ∷ future) works h some =
+    let redone = version edit.after.text (edit ∷ past) future in
+    ap (λ new. (after_key d None new Undo).content) (redo_once d e text edit past future works)
+    ∙ ap (λ (new : Editor). new.content)
+    (undo_once d (stepped Redo e redone edit.after.place) edit.after.text edit past future (works_on Redo e redone edit.after.place works))
     ∙ ap (λ t. version t past (edit ∷ future)) h.0
 
 -- ---- place and mark behind both
 
-redo_place : (d : Data) (e : Editor) (text : List ℕ) (past future : List Edit) → e.pasted ≡ None → (edit : Edit) (rest : List Edit) → past ≡ edit ∷ rest
+redo_place : (d : Data) (e : Editor) (text : List ℕ) (past future : List Edit) → DoesWork e → (edit : Edit) (rest : List Edit) → past ≡ edit ∷ rest
     → IsUnmarkedAt edit.after.place (after_keys d None (record e { content = version text past future }) (Undo ∷ Redo ∷ []))
-redo_place d e text [] future settled edit rest is = absurd (cc)
-redo_place d e text (latest ∷ past) future settled edit rest is =
+redo_place d e text [] future works edit rest is = absurd (cc)
+redo_place d e text (latest ∷ past) future works edit rest is =
     let same : latest ≡ edit = cc in
-    let undone = undo_once d e text latest past future settled in
-    let again = any-key d None (undone_once e text latest past future) Redo settled refl in
+    let undone = version latest.before.text past (latest ∷ future) in
+    let again =
+    redo_once d (stepped Undo e undone latest.before.place) latest.before.text latest past future (works_on Undo e undone latest.before.place works) in
     let there : IsUnmarkedAt latest.after.place (after_keys d None (record e { content = version text (latest ∷ past) future }) (Undo ∷ Redo ∷ [])) =
-    subst (λ new. IsUnmarkedAt latest.after.place (after_key d None new Redo)) (sym undone)
+    subst (λ new. IsUnmarkedAt latest.after.place (after_key d None new Redo)) (sym (undo_once d e text latest past future works))
     (subst (IsUnmarkedAt latest.after.place) (sym again) (record { place_is = refl; mark_is = refl })) in
     subst (λ (x : Edit). IsUnmarkedAt x.after.place (after_keys d None (record e { content = version text (latest ∷ past) future }) (Undo ∷ Redo ∷ [])))
     same there
 
-undo_place : (d : Data) (e : Editor) (text : List ℕ) (past future : List Edit) → e.pasted ≡ None → (edit : Edit) (rest : List Edit) → future ≡ edit ∷ rest
+undo_place : (d : Data) (e : Editor) (text : List ℕ) (past future : List Edit) → DoesWork e → (edit : Edit) (rest : List Edit) → future ≡ edit ∷ rest
     → IsUnmarkedAt edit.before.place (after_keys d None (record e { content = version text past future }) (Redo ∷ Undo ∷ []))
-undo_place d e text past [] settled edit rest is = absurd (cc)
-undo_place d e text past (next ∷ future) settled edit rest is =
+undo_place d e text past [] works edit rest is = absurd (cc)
+undo_place d e text past (next ∷ future) works edit rest is =
     let same : next ≡ edit = cc in
-    let redone = redo_once d e text next past future settled in
-    let again = any-key d None (redone_once e text next past future) Undo settled refl in
+    let redone = version next.after.text (next ∷ past) future in
+    let again =
+    undo_once d (stepped Redo e redone next.after.place) next.after.text next past future (works_on Redo e redone next.after.place works) in
     let there : IsUnmarkedAt next.before.place (after_keys d None (record e { content = version text past (next ∷ future) }) (Redo ∷ Undo ∷ [])) =
-    subst (λ new. IsUnmarkedAt next.before.place (after_key d None new Undo)) (sym redone)
+    subst (λ new. IsUnmarkedAt next.before.place (after_key d None new Undo)) (sym (redo_once d e text next past future works))
     (subst (IsUnmarkedAt next.before.place) (sym again) (record { place_is = refl; mark_is = refl })) in
     subst (λ (x : Edit). IsUnmarkedAt x.before.place (after_keys d None (record e { content = version text past (next ∷ future) }) (Redo ∷ Undo ∷ [])))
     same there
 
 pub undo_gives_back : UndoGivesBack
-undo_gives_back d text height width base typed settled =
+undo_gives_back d text height width base typed settled other =
     let e = after_typing d (at_start text height width base) typed in
     let has = all_typed_has d text height width base typed in
-    all_back d text e e.content.text e.content.past e.content.future settled has.past
+    all_back d text e e.content.text e.content.past e.content.future (record { settled = settled; other = other; writes = has.1 }) has.0.past
 
 pub redo_mirrors_undo : RedoMirrorsUndo
-redo_mirrors_undo d text height width base typed settled =
+redo_mirrors_undo d text height width base typed settled other =
     let e = after_typing d (at_start text height width base) typed in
     let has = all_typed_has d text height width base typed in
+    let works : DoesWork e = record { settled = settled; other = other; writes = has.1 } in
     record {
-      redo = redo_back d text e e.content.text e.content.past e.content.future settled has.past;
-      redo_place = redo_place d e e.content.text e.content.past e.content.future settled;
-      undo_place = undo_place d e e.content.text e.content.past e.content.future settled;
-      undo = undo_back d e e.content.text e.content.past e.content.future settled has.future;
+      redo = redo_back d text e e.content.text e.content.past e.content.future works has.0.past;
+      redo_place = redo_place d e e.content.text e.content.past e.content.future works;
+      undo_place = undo_place d e e.content.text e.content.past e.content.future works;
+      undo = undo_back d e e.content.text e.content.past e.content.future works has.0.future;
     }

@@ -1,5 +1,5 @@
 -- Each key that may be refused outside a paste changes a text of the editor, or moves the cursor, after some keys.
-use Rattle.std.proofs.Common.{◌≡◌, ℕ, ◌+◌, ◌-◌, true, false, List, [], ◌∷◌, length, map, Some, None, refl, sym, ap, subst, ◌∙◌, arith}
+use Rattle.std.proofs.Common.{◌≡◌, ℕ, ◌+◌, ◌-◌, ◌≤◌, leb-true, Bool, true, false, List, [], ◌∷◌, length, map, Some, None, refl, sym, ap, subst, ◌∙◌, arith}
 use Rattle.std.proofs.Common.{⊎_elim, if◌then◌else◌}
 use Rattle.std.specs.Prelude.{IsUtf8, ◌≢◌, ◌==◌, nat_le, codes, encode_utf8}
 use Rattle.std.specs.Fmt.{digits}
@@ -16,17 +16,20 @@ use Rattle.bx_keys.specs.declared.key.Key.{Key}
 use Rattle.bx_keys.specs.declared.key.Key.TheVariants.{Insert, Erase, Delete, Back, Forward, Up, Down, Right, Left, RowHome, RowEnd, PageUp, PageDown}
 use Rattle.bx_keys.specs.declared.key.Key.TheVariants.{Quit, Undo, Redo, Copy, Cut, Put, Find, FindBack, WordLeft, WordRight, TextStart, TextEnd}
 use Rattle.bx_keys.specs.declared.key.Key.TheVariants.{EraseWord, DeleteWord, ErasePoint, NewLine, FindNext, LineUp, LineDown, PageBack, PageOn}
-use Rattle.bx_keys.specs.declared.key.Key.TheVariants.{UndoRun, RedoRun, Replace, Point}
+use Rattle.bx_keys.specs.declared.key.Key.TheVariants.{UndoRun, RedoRun, Replace, Point, Drag, FindPrevious, ScrollBack, ScrollOn, SelectAll}
 use Rattle.bx_view.specs.Top.{pointed_at}
 use Rattle.bx_editor.specs.declared.message.Message.TheVariants.{TextFull}
 use Rattle.bx_editor.specs.undo_groups.Groups.{goes_on, kind_of}
 use Rattle.bx_editor.specs.Editor.{Editor, at_start, cleared, rows, text_height, with_insertion}
 use Rattle.bx_editor.specs.Keys.{after_key}
+use Rattle.bx_editor.specs.declared.undo_groups.typing.Kind.{Kind}
+use Rattle.bx_editor.specs.Putting as putting
 use Rattle.bx_editor.specs.Putting.{has_room, with_selection_replaced}
 use Rattle.bx_editor.specs.Region.{is_selection}
 use Rattle.bx_editor_laws.specs.Laws.{after_typing}
 use Rattle.bx_editor_laws.specs.RefusalLaws.{ChangesTexts, KeepsTexts, RefusableChangeTexts}
 use Rattle.bx_editor.proofs.Computed.{tables, letters}
+use Rattle.bx_editor_laws.proofs.PointedKeys.{drag-place, point-place}
 
 -- ab in two lines
 abbrev two_lines : List ℕ
@@ -66,11 +69,21 @@ moved-in : (height : ℕ) (keys : List Key) (key : Key) → (typed_in height key
 moved-in height keys key settled away =
     changed height keys key settled (λ h. ⊎_elim away.0 (λ back. away.1 back.1) h.place_is)
 
+moved-at : (height : ℕ) (keys : List Key) (key : Key) → (typed_in height keys).pasted ≡ None
+    → ((new_in height keys key).place == (typed_in height keys).place) ≡ false
+    → ((new_in height keys key).place == (typed_in height keys).origin) ≡ false → ChangesTexts key
+moved-at height keys key settled from_place from_origin =
+    let e = typed_in height keys in
+    let new = new_in height keys key in moved-in height keys key settled (apart new.place e.place from_place, apart new.place e.origin from_origin)
+
 moved : (keys : List Key) (key : Key) → (typed_in 6 keys).pasted ≡ None → ((new_in 6 keys key).place == (typed_in 6 keys).place) ≡ false
     → ((new_in 6 keys key).place == (typed_in 6 keys).origin) ≡ false → ChangesTexts key
-moved keys key settled from_place from_origin =
-    let e = typed_in 6 keys in
-    let new = new_in 6 keys key in moved-in 6 keys key settled (apart new.place e.place from_place, apart new.place e.origin from_origin)
+moved keys key settled from_place from_origin = moved-at 6 keys key settled from_place from_origin
+
+-- in a window of one row the wheel carries the cursor
+carries : (keys : List Key) (key : Key) → (typed_in 2 keys).pasted ≡ None → ((new_in 2 keys key).place == (typed_in 2 keys).place) ≡ false
+    → ((new_in 2 keys key).place == (typed_in 2 keys).origin) ≡ false → ChangesTexts key
+carries keys key settled from_place from_origin = moved-at 2 keys key settled from_place from_origin
 
 edited : (keys : List Key) (key : Key) → (typed_in 6 keys).pasted ≡ None
     → (length (new_in 6 keys key).content.past == length (typed_in 6 keys).content.past) ≡ false → ChangesTexts key
@@ -92,47 +105,71 @@ copied keys key settled more =
 room : (c : ℕ) → has_room (cleared (typed_in 6 [])) (encode_utf8 c) ≡ true
 room c = le-leb (5 + length (encode_utf8 c)) largest_text (omega (arith, length-encode c, (len_utf8_bounds c).1))
 
+-- what is typed there
+abbrev typed_there : List ℕ → Kind → Editor
+typed_there new kind = putting.typed tables (typed_in 6 []).typing (cleared (typed_in 6 [])) new kind
+
+one-more : (new : List ℕ) (kind : Kind) → has_room (cleared (typed_in 6 [])) new ≡ true → (length (typed_there new kind).content.past == 0) ≡ false
+one-more new kind fits =
+    let e = cleared (typed_in 6 []) in
+    let on = goes_on e.typing kind in
+    subst (λ b. (length (if b then (if is_selection e then with_selection_replaced tables e new else with_insertion tables e new on)
+    else record e { message = Some TextFull }).content.past == 0) ≡ false) (sym fits) refl
+
+either : (b : Bool) (p q : Editor) → (length p.content.past == 0) ≡ false → (length q.content.past == 0) ≡ false
+    → (length (if b then p else q).content.past == 0) ≡ false
+either true p q h k = h
+either false p q h k = k
+
 typed : (c : ℕ) → ChangesTexts (Insert c)
 typed c =
-    let e = cleared (typed_in 6 []) in
-    let new = encode_utf8 c in
-    let on = goes_on e.typing (kind_of (tables.class c)) in
+    let kind = kind_of (tables.class c) in
+    let tab = kind_of (tables.class 0x9) in
     edited [] (Insert c) refl
-    (subst (λ b. (length (if b then (if is_selection e then with_selection_replaced tables e new else with_insertion tables e new on)
-    else record e { message = Some TextFull }).content.past == 0) ≡ false) (sym (room c)) refl)
+    (either (c == 0x9) (typed_there (encode_utf8 0x9) tab) (typed_there (encode_utf8 c) kind) (one-more (encode_utf8 0x9) tab (room 0x9))
+     (one-more (encode_utf8 c) kind (room c)))
 
 -- ---- a cell of the window
 
 -- a row of the window has room for the text
-inside : (row : ℕ) → nat_le row (text_height (row + 2)) ≡ true
+inside : (row : ℕ) → row ≤ text_height (row + 2)
 inside row =
-    ap (λ b. nat_le row (if b then row + 2 - 1 else 1)) (le-leb 2 (row + 2) (omega arith)) ∙ le-leb row (row + 2 - 1) (omega arith)
+    leb-true row (text_height (row + 2))
+    (ap (λ b. nat_le row (if b then row + 2 - 1 else 1)) (le-leb 2 (row + 2) (omega arith)) ∙ le-leb row (row + 2 - 1) (omega arith))
 
 -- the text's start and its end are not both in it
 abbrev cell : ℕ → ℕ → ℕ
 cell row column = pointed_at 40 (rows tables (typed_in (row + 2) [])) 0 row column
 
-from-start : (row column : ℕ) → (new_in (row + 2) [] (Point row column)).place ≡ cell row column
-unfolding unicode_segmentation unicode_width digits
-from-start row column = ap (λ b. if b then cell row column else 0) (inside row)
-
 -- a search that was given up began at the end
 abbrev to_the_end : List Key
 to_the_end = TextEnd ∷ Find ∷ Quit ∷ []
 
+from-start : (row column : ℕ) → (new_in (row + 2) [] (Point row column)).place ≡ cell row column
+from-start row column = point-place tables (typed_in (row + 2) []) row column refl (λ over. cc over) (inside row) refl
+
 from-end : (row column : ℕ) → (new_in (row + 2) to_the_end (Point row column)).place ≡ cell row column
 unfolding unicode_segmentation unicode_width digits
-from-end row column = ap (λ b. if b then cell row column else 5) (inside row)
+from-end row column = point-place tables (typed_in (row + 2) to_the_end) row column refl (λ over. cc over) (inside row) refl
 
-pointed : (row column : ℕ) → ChangesTexts (Point row column)
+dragged-start : (row column : ℕ) → (new_in (row + 2) [] (Drag row column)).place ≡ cell row column
+dragged-start row column = drag-place tables (typed_in (row + 2) []) row column refl (λ over. cc over) (inside row) refl refl
+
+dragged-end : (row column : ℕ) → (new_in (row + 2) to_the_end (Drag row column)).place ≡ cell row column
 unfolding unicode_segmentation unicode_width digits
-pointed row column =
+dragged-end row column = drag-place tables (typed_in (row + 2) to_the_end) row column refl (λ over. cc over) (inside row) refl refl
+
+-- such a key goes to the cell from the start, and from the end
+to-cell : (key : Key) (row column : ℕ) → (new_in (row + 2) [] key).place ≡ cell row column → (new_in (row + 2) to_the_end key).place ≡ cell row column
+    → ChangesTexts key
+unfolding unicode_segmentation unicode_width digits
+to-cell key row column first last =
     ⊎_elim (λ start.
-    let away : (new_in (row + 2) to_the_end (Point row column)).place ≢ 5 = λ is. (let e : 0 ≡ 5 = sym start ∙ (sym (from-end row column) ∙ is) in cc e) in
-    moved-in (row + 2) to_the_end (Point row column) refl (away, away))
+    let away : (new_in (row + 2) to_the_end key).place ≢ 5 = λ is. (let e : 0 ≡ 5 = sym start ∙ (sym last ∙ is) in cc e) in
+    moved-in (row + 2) to_the_end key refl (away, away))
     (λ other.
-    let away : (new_in (row + 2) [] (Point row column)).place ≢ 0 = λ is. other (sym (from-start row column) ∙ is) in
-    moved-in (row + 2) [] (Point row column) refl (away, away))
+    let away : (new_in (row + 2) [] key).place ≢ 0 = λ is. other (sym first ∙ is) in
+    moved-in (row + 2) [] key refl (away, away))
     (cases_eq (cell row column) 0)
 
 -- ---- any key
@@ -190,5 +227,10 @@ refusable-change-texts PageOn is = moved [] PageOn refl refl refl
 refusable-change-texts UndoRun is = edited one_edit UndoRun refl refl
 refusable-change-texts RedoRun is = edited one_undone RedoRun refl refl
 refusable-change-texts Replace is = edited a_shown Replace refl refl
-refusable-change-texts (Point row column) is = pointed row column
+refusable-change-texts SelectAll is = moved [] SelectAll refl refl refl
+refusable-change-texts FindPrevious is = moved b_found FindPrevious refl refl refl
+refusable-change-texts ScrollBack is = carries to_the_end ScrollBack refl refl refl
+refusable-change-texts ScrollOn is = carries [] ScrollOn refl refl refl
+refusable-change-texts (Point row column) is = to-cell (Point row column) row column (from-start row column) (from-end row column)
+refusable-change-texts (Drag row column) is = to-cell (Drag row column) row column (dragged-start row column) (dragged-end row column)
 refusable-change-texts key is = absurd (cc is)

@@ -154,7 +154,7 @@ told-letters p u small-p small-u =
     let rest : AreLetters (codes ":" ++ decimal u) = (record { line = refl; low = omega arith }, all-digits (decimal u) (decimal-writes u small-u).digits) in
     letters-append (decimal p) (codes ":" ++ decimal u) (all-digits (decimal p) (decimal-writes p small-p).digits) rest
 
-letters-ascii : (cs : List ℕ) → AreLetters cs → IsAscii cs
+pub letters-ascii : (cs : List ℕ) → AreLetters cs → IsAscii cs
 letters-ascii [] h i = omega arith
 letters-ascii (c ∷ cs) h zero = h.0.low
 letters-ascii (c ∷ cs) h (suc i) = letters-ascii cs h.1 i

@@ -30,11 +30,11 @@ use Rattle.bx_editor.specs.declared.search_state.SearchState.{SearchState}
 use Rattle.bx_editor.specs.declared.search_state.SearchState.TheVariants.{Off, Begun, Typed, WithBegun, WithTyped, Replacing}
 use Rattle.bx_editor_laws.specs.AskingLaws.{IsUntouched, TellShows, TellsWhatStands}
 use Rattle.bx_editor.specs.Editor.{Editor, cleared, rows}
-use Rattle.bx_editor.specs.Effects.{Before, before}
+use Rattle.bx_editor.specs.Before.{Before, before}
 use Rattle.bx_editor.specs.Keys.{after_any, as_left}
 use Rattle.bx_editor.specs.Region.{aged}
 use Rattle.bx_editor.specs.Status.{paragraph_number, status_line, status_text, unit_number, told_at_place}
-use Rattle.bx_editor.proofs.InSearch.{any-key}
+use Rattle.bx_editor_laws.proofs.KeyEnds.{ended-key}
 use Rattle.bx_editor_laws.proofs.UnitBytes.{is-inside, unit-bytes, unit-step}
 
 -- ---- a unit
@@ -132,25 +132,9 @@ tells-what-stands d e has = record {
   printable = told-printable d e;
 }
 
--- what Tell leaves
-abbrev told : Editor → Prompt → SearchState → Editor
-told e prompt search_state = record (cleared e) { prompt = prompt; search_state = search_state; message = Some Told; goal = None; soft = aged e.soft }
-
-tell-any : (d : Data) (was : Before) (prompt : Prompt) (search_state : SearchState) (e : Editor) → let new = after_any d None was prompt search_state (cleared e) Tell in
-    as_left Tell new ≡ told e new.prompt new.search_state
-tell-any d was prompts.Off Off e = refl
-tell-any d was prompts.Off Begun e = refl
-tell-any d was prompts.Off Typed e = refl
-tell-any d was prompts.Off WithBegun e = refl
-tell-any d was prompts.Off WithTyped e = refl
-tell-any d was prompts.Off Replacing e = refl
-tell-any d was prompts.Line search_state e = refl
-tell-any d was prompts.Name search_state e = refl
-tell-any d was prompts.Code search_state e = refl
-
 pub tell-shows : TellShows
-tell-shows d e settled =
+tell-shows d e settled other =
     subst (λ (new : Editor). (status_text d new ≡ status_line e.changed (paragraph_number d e.content.text e.place + 1) (unit_number d e.content.text e.place)
     ++ (codes " " ++ told_at_place d e)) × IsUntouched e new)
-    (sym (any-key d None e Tell settled refl ∙ tell-any d (before e) e.prompt e.search_state e))
+    (sym (ended-key d None e Tell settled refl refl refl other))
     (refl, record { content_is = refl; place_is = refl; held_is = refl; mark_is = λ h. refl })

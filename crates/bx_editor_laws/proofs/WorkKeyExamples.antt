@@ -10,6 +10,8 @@ use Rattle.bx_keys.specs.declared.key.Key.{Key}
 use Rattle.bx_keys.specs.declared.key.Key.TheVariants.{Insert, Down, Forward, Find, Left, Mark, Repaint, RowEnd, Size, TextEnd, Undo, Up}
 use Rattle.bx_keys.specs.declared.key.Key.TheVariants.{EraseWord, DeleteWord, ErasePoint, NewLine, FindNext, Cancel, LineUp, LineDown, PageBack, PageOn}
 use Rattle.bx_editor.specs.declared.message.Message.{Message}
+use Rattle.bx_view.specs.declared.moves.Goal.{Goal}
+use Rattle.bx_view.specs.declared.moves.Goal.TheVariants.{Column, End}
 use Rattle.bx_editor.specs.declared.message.Message.TheVariants.{FromStart}
 use Rattle.bx_editor.specs.declared.search_state.SearchState.{SearchState}
 use Rattle.bx_editor.specs.declared.search_state.SearchState.TheVariants.{Off, Begun}
@@ -24,7 +26,7 @@ abbrev edited : List ℕ → List Key → List ℕ × ℕ
 edited text keys = text_and_place (after (start text 4 20) keys)
 
 -- place and kept column
-abbrev gone_to : List ℕ → List Key → ℕ × Option ℕ
+abbrev gone_to : List ℕ → List Key → ℕ × Option Goal
 gone_to text keys = let e = after (start text 4 20) keys in (e.place, e.goal)
 
 abbrev acute : ℕ
@@ -163,11 +165,11 @@ a_new_line_ends_a_search = refl
 abbrev short_between : List ℕ
 short_between = codes "abcdef\nab\nabcdef"
 
-pub through_a_short_row_and_back : gone_to short_between (RowEnd ∷ LineDown ∷ LineDown ∷ LineUp ∷ LineUp ∷ []) ≡ (6, Some 7)
+pub through_a_short_row_and_back : gone_to short_between (RowEnd ∷ LineDown ∷ LineDown ∷ LineUp ∷ LineUp ∷ []) ≡ (6, Some End)
 unfolding unicode_segmentation unicode_width digits
 through_a_short_row_and_back = refl
 
-pub down_to_the_column : gone_to short_between (RowEnd ∷ LineDown ∷ LineDown ∷ []) ≡ (16, Some 7)
+pub down_to_the_column : gone_to short_between (RowEnd ∷ LineDown ∷ LineDown ∷ []) ≡ (16, Some End)
 unfolding unicode_segmentation unicode_width digits
 down_to_the_column = refl
 
@@ -175,11 +177,11 @@ pub up_and_down_keep_none : gone_to short_between (RowEnd ∷ Down ∷ Down ∷ 
 unfolding unicode_segmentation unicode_width digits
 up_and_down_keep_none = refl
 
-pub another_key_lets_it_go : gone_to short_between (RowEnd ∷ LineDown ∷ Left ∷ LineDown ∷ []) ≡ (11, Some 2)
+pub another_key_lets_it_go : gone_to short_between (RowEnd ∷ LineDown ∷ Left ∷ LineDown ∷ []) ≡ (11, Some (Column 2))
 unfolding unicode_segmentation unicode_width digits
 another_key_lets_it_go = refl
 
-pub repaint_and_size_do_not : gone_to short_between (RowEnd ∷ LineDown ∷ Size 4 30 ∷ Repaint ∷ LineDown ∷ []) ≡ (16, Some 7)
+pub repaint_and_size_do_not : gone_to short_between (RowEnd ∷ LineDown ∷ Size 4 30 ∷ Repaint ∷ LineDown ∷ []) ≡ (16, Some End)
 unfolding unicode_segmentation unicode_width digits
 repaint_and_size_do_not = refl
 

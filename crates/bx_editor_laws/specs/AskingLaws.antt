@@ -15,14 +15,14 @@ use Rattle.bx_levels.specs.resolve.Laws.{class_at, entry_at, level_at}
 use Rattle.bx_levels.specs.resolve.Levels.{levels_under, paragraph_level_under}
 use Rattle.bx_levels.specs.resolve.Kept.{is_kept}
 use Rattle.unicode_segmentation.specs.Grapheme.{graphemes}
-use Rattle.bx_editor.specs.declared.questions.answers.Prompt.TheVariants.{Off}
+use Rattle.bx_editor.specs.declared.questions.answers.Prompt.TheVariants.{Off, Overwrite}
 use Rattle.bx_editor.specs.questions.Names.{coded, asks_code, closing, named}
 use Rattle.bx_editor.specs.questions.Told.{character_text, others_text}
 use Rattle.bx_keys.specs.declared.key.Key.{Key}
 use Rattle.bx_keys.specs.declared.key.Key.TheVariants.{Insert, NewLine, Erase, ErasePoint, Delete, UndoRun, GoTo, Name, Tell}
 use Rattle.bx_store.specs.declared.store.StoreFault.{StoreFault}
 use Rattle.bx_text.specs.Changes.{IsRange}
-use Rattle.bx_rows.specs.RowPicture.{Glyph}
+use Rattle.bx_rows.specs.RowPicture.{Glyph, letter_glyphs}
 use Rattle.bx_view.specs.Places.{IsTextPlace}
 use Rattle.bx_view.specs.Numbers.{body_at, count, paragraph_at, start_at}
 use Rattle.bx_document.specs.Swapped.{wrapped_end}
@@ -34,11 +34,12 @@ use Rattle.bx_editor.specs.Answers.{IsAnswer}
 use Rattle.bx_editor.specs.Asking.{after_going, longest_code, with_answer, without_prompt, cursor_end, spans_lines}
 use Rattle.bx_editor.specs.Editor.{Editor, at_start, place_after}
 use Rattle.bx_editor.specs.Functions.{HasRows, after_keys}
+use Rattle.bx_editor.specs.InputLines.{input_line_of, line_at_end}
 use Rattle.bx_editor.specs.Keys.{after_key}
 use Rattle.bx_editor_laws.specs.Laws.{after_typing, IsPart}
 use Rattle.bx_editor.specs.Region.{bytes_in, is_empty, region, aged}
 use Rattle.bx_editor_laws.specs.RunLaws.{IsBackBefore}
-use Rattle.bx_editor.specs.Status.{message_part, paragraph_number, prompt_glyphs, status_line, status_text, unit_number, told_at_place}
+use Rattle.bx_editor.specs.Status.{message_part, paragraph_number, prompt_text, row_text, status_line, status_text, typed_glyphs, unit_number, told_at_place}
 
 -- ---- a question changes nothing but itself
 
@@ -67,19 +68,23 @@ pub record IsUntouched (e new : Editor) : Type 0 where
   pub held_is : new.held ≡ e.held
   pub mark_is : e.soft ≡ softness.Off → new.mark ≡ e.mark
 
--- A key that types into the answer or erases in it changes question and answer alone, if a question is on after it; the
--- message, an earlier Quit and a kept column are gone. Whatever is typed while a question is on leaves all else untouched.
+-- A key that types into the answer or erases in it changes question and answer alone, if a question is on before and after it, and not
+-- the one whether to overwrite; the message, an earlier Quit, a kept column and what was pressed are gone. Whatever is typed while a
+-- question is on leaves all else untouched.
 pub record ChangesItself (d : Data) (e : Editor) : Type 0 where
   pub key : (key : Key) (fault : Option StoreFault) → (types key || erases key) ≡ true → let new = after_key d fault e key in
-      new.prompt ≢ Off
+      e.prompt ≢ Overwrite → new.prompt ≢ Off → new.prompt ≢ Overwrite
       → new ≡ record e {
         prompt = new.prompt;
         answer = new.answer;
+        input_cursor = new.input_cursor;
         message = None;
         quit_before = false;
         typing = new.typing;
         goal = None;
         soft = aged e.soft;
+        clicks = None;
+        pressed = None;
       }
   pub keys : (typed : List (Key × Option StoreFault)) → StaysAsked d e typed → IsUntouched e (after_typing d e typed)
 
@@ -104,12 +109,12 @@ pub record HasTextPlace (d : Data) (e : Editor) : Type 0 where
   pub size : length e.content.text ≤ largest_text
   pub place : IsTextPlace d e.content.text e.place
 
--- The status row tells these numbers. They are an answer that leads to the place where the cursor is already, and one that
--- is short enough to be typed, where no paste is under way.
+-- The status row tells these numbers. They are an answer that leads to the place where the cursor is already, and one that is short
+-- enough to be typed, where no paste is under way and the question is not whether to overwrite.
 pub record LeadsToItself (d : Data) (e : Editor) : Type 0 where
   pub told : status_text d e ≡ (if e.changed then codes "* " else codes "- ") ++ (told_numbers d e ++ message_part (told_at_place d e) e.message)
-  pub answered : let asked = with_answer e (told_numbers d e) in after_going d asked ≡ without_prompt asked
-  pub typed : e.pasted ≡ None → (enter : Key) → is_enter enter ≡ true
+  pub answered : let asked = with_answer e (line_at_end (told_numbers d e)) in after_going d asked ≡ without_prompt asked
+  pub typed : e.pasted ≡ None → e.prompt ≢ Overwrite → (enter : Key) → is_enter enter ≡ true
       → let new = after_keys d None e (GoTo ∷ (map Insert (told_numbers d e) ++ enter ∷ [])) in IsUntouched e new × (new.prompt ≡ Off)
 
 abbrev pub ToldNumbersLeadBack : Type 0
@@ -126,24 +131,29 @@ AnswerIsARun =
     → let answered = after_typing d asked typed in length e.content.past < length (after_key d None answered key).content.past
     → IsBackBefore e (after_keys d None answered (key ∷ UndoRun ∷ []))
 
+-- no paste is under way, the question is not whether to overwrite, and the text is not only looked at
+pub record CanAsk (e : Editor) : Type 0 where
+  pub settled : e.pasted ≡ None
+  pub undecided : e.prompt ≢ Overwrite
+  pub writes : e.read_only ≡ false
+
 -- the bytes stand at the place, and the cursor at the first place at or after their end
 pub record IsPutIn (d : Data) (e : Editor) (bytes : List ℕ) (new : Editor) : Type 0 where
   pub text_is : new.content.text ≡ take e.place e.content.text ++ bytes ++ drop e.place e.content.text
   pub place_is : new.place ≡ place_after d e new.content.text (e.place + length bytes)
   pub prompt_is : new.prompt ≡ Off
 
--- outside a paste Name and a letter put the letter's character in, if there is room; but where the character begins what another
--- one ends, only without a region
+-- Outside a paste, where the text is not only looked at and the question is not whether to overwrite, Name and a letter put the letter's
+-- character in, if there is room; but where the character begins what another one ends, only without a region.
 abbrev pub LetterPutsIn : Type 0
 LetterPutsIn =
-    (d : Data) (e : Editor) (letter c : ℕ) → e.pasted ≡ None → named letter ≡ Some c → ((closing letter ≡ None) ⊎ (is_empty (region e) ≡ true))
+    (d : Data) (e : Editor) (letter c : ℕ) → CanAsk e → named letter ≡ Some c → ((closing letter ≡ None) ⊎ (is_empty (region e) ≡ true))
     → length e.content.text + length (encode_utf8 c) ≤ largest_text → IsPutIn d e (encode_utf8 c) (after_keys d None e (Name ∷ Insert letter ∷ []))
 
--- outside a paste Name, a letter that asks for a code, its digits and the end of a line put the code's character in, if there is
--- room
+-- there Name, a letter that asks for a code, its digits and the end of a line put the code's character in, if there is room
 abbrev pub CodePutsIn : Type 0
 CodePutsIn =
-    (d : Data) (e : Editor) (letter : ℕ) (code : List ℕ) (c : ℕ) (enter : Key) → e.pasted ≡ None → asks_code letter ≡ true → coded code ≡ Some c
+    (d : Data) (e : Editor) (letter : ℕ) (code : List ℕ) (c : ℕ) (enter : Key) → CanAsk e → asks_code letter ≡ true → coded code ≡ Some c
     → length code ≤ longest_code → is_enter enter ≡ true → length e.content.text + length (encode_utf8 c) ≤ largest_text
     → IsPutIn d e (encode_utf8 c) (after_keys d None e (Name ∷ Insert letter ∷ (map Insert code ++ enter ∷ [])))
 
@@ -176,10 +186,10 @@ pub record WrapsRegion (d : Data) (e : Editor) (opener closer : ℕ) (new : Edit
   pub full : spans_lines d e ≡ false → largest_text < length e.content.text + length (encode_utf8 opener) + length (encode_utf8 closer)
       → IsRefusedWith TextFull e new
 
--- outside a paste Name and the letter of a character that begins what another one ends wrap the region
+-- there Name and the letter of a character that begins what another one ends wrap the region
 abbrev pub LetterWraps : Type 0
 LetterWraps =
-    (d : Data) (e : Editor) (letter opener closer : ℕ) → e.pasted ≡ None → named letter ≡ Some opener → closing letter ≡ Some closer → IsPart e (region e)
+    (d : Data) (e : Editor) (letter opener closer : ℕ) → CanAsk e → named letter ≡ Some opener → closing letter ≡ Some closer → IsPart e (region e)
     → WrapsRegion d e opener closer (after_keys d None e (Name ∷ Insert letter ∷ []))
 
 -- the classes of characters that begin a level (X2 to X5c)
@@ -238,7 +248,7 @@ pub record Isolates (d : Data) (e : Editor) (opener closer : ℕ) (new : Editor)
 -- A letter names an isolate initiator, which a PDI ends. The text is UTF-8 and the region's ends are character boundaries, as
 -- in every editor of the code; the region is in one line, there is room, and no paste is under way.
 pub record CanIsolate (d : Data) (e : Editor) (letter opener closer : ℕ) : Type 0 where
-  pub settled : e.pasted ≡ None
+  pub can : CanAsk e
   pub opener_is : named letter ≡ Some opener
   pub closer_is : closing letter ≡ Some closer
   pub begins : is_initiator (d.class opener) ≡ true
@@ -261,10 +271,10 @@ pub record IsShown (g : Glyph) : Type 0 where
   pub one : is_one_glyph g.text ≡ true
   pub columns : run_width g.text ≡ g.columns
 
--- the answer is short, its characters are narrow, and all glyphs of a prompt are shown
+-- the answer is short, and all glyphs of a prompt, its words and what is typed behind them, are shown
 pub record ShowsPrompt (d : Data) (e : Editor) : Type 0 where
   pub answer : IsAnswer e.prompt e.answer
-  pub glyphs : e.prompt ≢ Off → All IsShown (prompt_glyphs d e e.prompt)
+  pub glyphs : e.prompt ≢ Off → All IsShown (letter_glyphs (prompt_text e.prompt) ++ typed_glyphs d e (row_text d e) (input_line_of e))
 
 -- answer and prompt are so whatever was typed over an opened text
 abbrev pub PromptsAreShown : Type 0
@@ -294,10 +304,10 @@ pub record TellsUnit (d : Data) (e : Editor) : Type 0 where
 abbrev pub TellsWhatStands : Type 0
 TellsWhatStands = (d : Data) (e : Editor) → HasRows e → TellsUnit d e
 
--- outside a paste Tell shows what is told of the place after the numbers on the status row, and leaves text, place, held text and
--- mark
+-- outside a paste and the question whether to overwrite Tell shows what is told of the place after the numbers on the status row, and leaves
+-- text, place, held text and mark
 abbrev pub TellShows : Type 0
 TellShows =
-    (d : Data) (e : Editor) → e.pasted ≡ None → let new = after_key d None e Tell in
+    (d : Data) (e : Editor) → e.pasted ≡ None → e.prompt ≢ Overwrite → let new = after_key d None e Tell in
     (status_text d new ≡ status_line e.changed (paragraph_number d e.content.text e.place + 1) (unit_number d e.content.text e.place) ++ (codes " " ++ told_at_place d e))
     × IsUntouched e new

@@ -18,8 +18,8 @@ use Rattle.bx_editor.specs.declared.undo_groups.typing.Typing.TheVariants as typ
 use Rattle.bx_editor.specs.Asking.{longest_code, longest_line}
 use Rattle.bx_editor.specs.Editor.{Editor, at_start}
 use Rattle.bx_editor.specs.InputLines.{input_line_of, is_no_letter}
-use Rattle.bx_editor.specs.Keys.{after_key, is_typed, saving_of}
-use Rattle.bx_editor.specs.Saving.{Saving, Over, longest_name}
+use Rattle.bx_editor.specs.Keys.{after_key, is_typed, overwrites, saving_of}
+use Rattle.bx_editor.specs.Saving.{Saving, Over, confirms, longest_name}
 use Rattle.bx_editor.specs.Search.{longest_query}
 use Rattle.bx_editor.specs.questions.Answers.{is_line_letter, shortened}
 use Rattle.bx_editor.specs.questions.KeyLetters.{code_letter, key_letter}
@@ -152,16 +152,15 @@ LineIsText =
 
 -- ---- no Save overwrites what another program wrote
 
--- a letter that the question whether to overwrite takes
-abbrev pub is_decision : Key → Bool
-is_decision (Insert c) = true
-is_decision _ = false
-
--- the text is stored over what another program wrote by no key but a letter that answers that question; and any other key ends the question
+-- The text is stored over what another program wrote by no key but a letter that confirms that, in the question whether to overwrite it; no
+-- Save does so. A letter that confirms it does, where it is typed, the text can be saved, and saves go to the session's file. A Save is no
+-- answer: it ends the question.
 pub record OverwritesByAnswer (d : Data) (fault : Option StoreFault) (e : Editor) (key : Key) : Type 0 where
   pub asked : saving_of e key ≡ Some Over → e.prompt ≡ prompts.Overwrite
-  pub decided : saving_of e key ≡ Some Over → is_decision key ≡ true
+  pub confirmed : saving_of e key ≡ Some Over → (c : ℕ) × ((key ≡ Insert c) × (confirms c ≡ true))
   pub save : saving_of e Save ≢ Some Over
+  pub answer : (c : ℕ) → e.prompt ≡ prompts.Overwrite → e.pasted ≡ None → overwrites e c ≡ true → e.home ≡ true → saving_of e (Insert c) ≡ Some Over
+  pub declined : e.prompt ≡ prompts.Overwrite → e.pasted ≡ None → (after_key d fault e Save).prompt ≡ prompts.Off
 
 abbrev pub OnlyAnswersOverwrite : Type 0
 OnlyAnswersOverwrite = (d : Data) (fault : Option StoreFault) (e : Editor) (key : Key) → OverwritesByAnswer d fault e key

@@ -4,7 +4,7 @@ use Rattle.std.specs.Prelude.{◌≡◌, ◌≢◌, ◌⊎◌, ℕ, ◌+◌, ◌
 use Rattle.bx_common.specs.Characters.{largest_text}
 use Rattle.bx_common.specs.declared.base.Base.{Base}
 use Rattle.bx_keys.specs.declared.key.Key.{Key}
-use Rattle.bx_keys.specs.declared.key.Key.TheVariants.{Quit, Undo, Redo, Mark, Copy, Cut, Put, Find, FindBack, FindNext, Replace, TextStart, TextEnd, Cancel}
+use Rattle.bx_keys.specs.declared.key.Key.TheVariants.{Quit, Undo, Redo, Mark, Copy, Cut, Put, Find, FindBack, FindNext, FindPrevious, Replace, TextStart, TextEnd, Cancel}
 use Rattle.bx_store.specs.declared.store.StoreFault.{StoreFault}
 use Rattle.bx_text.specs.Edits.{Edit}
 use Rattle.bx_ucd.specs.Data.{Data}
@@ -21,8 +21,9 @@ use Rattle.bx_editor.specs.declared.undo_groups.typing.Typing.TheVariants as typ
 use Rattle.bx_editor.specs.Editor.{Editor, at_start, place_after, rows}
 use Rattle.bx_editor.specs.Functions.{HasRows, after_keys}
 use Rattle.bx_editor.specs.Keys.{after_key}
-use Rattle.bx_editor.specs.Region.{bytes_in, region, taken, mark_left}
+use Rattle.bx_editor.specs.Region.{bytes_in, region, mark_left}
 use Rattle.bx_editor.specs.Origin.{asks_replacement, is_queried}
+use Rattle.bx_editor.specs.PasteLaws.{can_cut, cuts_in}
 use Rattle.bx_editor.specs.Search.{next_or_start, reading, sought}
 use Rattle.bx_editor.specs.Picture.{next_top}
 
@@ -61,11 +62,13 @@ pub record IsBackAt (text : List ℕ) (e new : Editor) : Type 0 where
   pub place_is : new.place ≡ oldest_place e.place e.content.past
   pub mark_is : new.mark ≡ mark_behind e.mark e.content.past
 
--- undoing everything restores the opened text, whatever was typed, unless a paste is under way
+-- undoing everything restores the opened text, whatever was typed, unless a paste is under way, or the question is whether to overwrite,
+-- which the first Undo only ends
 abbrev pub UndoGivesBack : Type 0
 UndoGivesBack =
     (d : Data) (text : List ℕ) (height width : ℕ) (base : Base) (typed : List (Key × Option StoreFault))
-    → let e = after_typing d (at_start text height width base) typed in e.pasted ≡ None → IsBackAt text e (after_all_undone d e)
+    → let e = after_typing d (at_start text height width base) typed in
+    e.pasted ≡ None → e.prompt ≢ prompts.Overwrite → IsBackAt text e (after_all_undone d e)
 
 -- the cursor is at this place, and no mark is set
 pub record IsUnmarkedAt (place : ℕ) (e : Editor) : Type 0 where
@@ -82,11 +85,13 @@ pub record AreMirrored (d : Data) (e : Editor) : Type 0 where
   pub undo_place : (edit : Edit) (future : List Edit) → e.content.future ≡ edit ∷ future
       → IsUnmarkedAt edit.before.place (after_keys d None e (Redo ∷ Undo ∷ []))
 
--- undo and redo mirror each other after anything that was typed over an opened text, unless a paste is under way
+-- undo and redo mirror each other after anything that was typed over an opened text, unless a paste is under way, or the question is
+-- whether to overwrite
 abbrev pub RedoMirrorsUndo : Type 0
 RedoMirrorsUndo =
     (d : Data) (text : List ℕ) (height width : ℕ) (base : Base) (typed : List (Key × Option StoreFault))
-    → let e = after_typing d (at_start text height width base) typed in e.pasted ≡ None → AreMirrored d e
+    → let e = after_typing d (at_start text height width base) typed in
+    e.pasted ≡ None → e.prompt ≢ prompts.Overwrite → AreMirrored d e
 
 -- ---- the region
 
@@ -105,31 +110,48 @@ pub record HasPut (d : Data) (e : Editor) (text : List ℕ) (offset : ℕ) (new 
   pub place_is : new.place ≡ place_after d e text offset
   pub mark_is : new.mark ≡ None
 
--- outside a search, a question and a paste, copying the region and putting it back at once leaves the text with the region
--- twice, if there is room, and the cursor at the end of what was put
+-- Outside a search, a question and a paste, where the text is not only looked at, copying the region and putting it back at once leaves
+-- the text with the region twice, if there is room, and the cursor at the end of what was put. A selection stays when it is copied, so what
+-- is put takes its place.
 abbrev pub CopyPutsTwice : Type 0
 CopyPutsTwice =
-    (d : Data) (e : Editor) → e.prompt ≡ prompts.Off → e.search_state ≡ Off → e.pasted ≡ None → IsPart e (region e) → length (twice e (region e)) ≤ largest_text
+    (d : Data) (e : Editor) → e.prompt ≡ prompts.Off → e.search_state ≡ Off → e.pasted ≡ None → e.read_only ≡ false → e.soft ≡ softness.Off
+    → IsPart e (region e) → length (twice e (region e)) ≤ largest_text
     → HasPut d e (twice e (region e)) (e.place + length (bytes_in e (region e))) (after_keys d None e (Copy ∷ Put ∷ []))
 
--- outside a paste, cutting and putting back at once leaves the text unchanged, if the cut leaves the cursor where the cut text
--- began, and the cursor at the end of that text
+-- Outside a paste, where Cut does its work (in an input line it does nothing), cutting a region and putting it back at once leaves the text
+-- unchanged, if the cut leaves the cursor where the cut text began, and the cursor at the end of that text.
 abbrev pub PutRestoresCut : Type 0
 PutRestoresCut =
-    (d : Data) (e : Editor) → e.pasted ≡ None → IsPart e (taken d e) → length e.content.text ≤ largest_text
-    → (after_key d None e Cut).place ≡ (taken d e).0
-    → HasPut d e e.content.text ((taken d e).1) (after_keys d None e (Cut ∷ Put ∷ []))
+    (d : Data) (e : Editor) → e.pasted ≡ None → can_cut e ≡ true → IsPart e (region e) → length e.content.text ≤ largest_text
+    → (after_key d None e Cut).place ≡ (region e).0
+    → HasPut d e e.content.text ((region e).1) (after_keys d None e (Cut ∷ Put ∷ []))
 
--- Outside a paste, Mark twice at one place changes nothing but the message, if the mark was there or nowhere; a mark elsewhere is
--- gone. A search, a question and a selection end, nothing goes on, and an earlier Quit and a kept column are forgotten.
+-- Mark twice at one place changes nothing but the message, if the mark was there or nowhere; a mark elsewhere is gone. A search, a
+-- question and a selection end, nothing goes on, and an earlier Quit, a kept column and what was pressed are forgotten.
+abbrev pub marked_twice : Editor → Option ℕ → Option Message → Editor
+marked_twice e mark message = record e {
+  mark = mark;
+  soft = softness.Off;
+  search_state = Off;
+  prompt = prompts.Off;
+  typing = typings.Off;
+  message = message;
+  quit_before = false;
+  goal = None;
+  clicks = None;
+  pressed = None;
+}
+
 pub record AreTwoMarks (e new : Editor) : Type 0 where
-  pub here : (e.mark ≡ None) ⊎ (e.mark ≡ Some e.place)
-      → new ≡ record e { soft = softness.Off; search_state = Off; prompt = prompts.Off; typing = typings.Off; message = new.message; quit_before = false; goal = None }
-  pub elsewhere : (mark : ℕ) → e.mark ≡ Some mark → mark ≢ e.place
-      → new ≡ record e { mark = None; soft = softness.Off; search_state = Off; prompt = prompts.Off; typing = typings.Off; message = new.message; quit_before = false; goal = None }
+  pub here : (e.mark ≡ None) ⊎ (e.mark ≡ Some e.place) → new ≡ marked_twice e e.mark new.message
+  pub elsewhere : (mark : ℕ) → e.mark ≡ Some mark → mark ≢ e.place → new ≡ marked_twice e None new.message
 
+-- So it is outside a paste, where no input line is shown and the question is not whether to overwrite: in an input line Mark does
+-- nothing.
 abbrev pub MarkTwiceIsNothing : Type 0
-MarkTwiceIsNothing = (d : Data) (e : Editor) → e.pasted ≡ None → AreTwoMarks e (after_keys d None e (Mark ∷ Mark ∷ []))
+MarkTwiceIsNothing =
+    (d : Data) (e : Editor) → e.pasted ≡ None → cuts_in e.prompt e.search_state ≡ true → AreTwoMarks e (after_keys d None e (Mark ∷ Mark ∷ []))
 
 -- ---- the text's ends
 
@@ -139,7 +161,7 @@ hard_mark softness.Off mark = mark
 hard_mark soft mark = None
 
 -- the cursor is at this place, a search, a question and a selection have ended, nothing goes on, and the message, an earlier
--- Quit and a kept column are gone
+-- Quit, a kept column and what was pressed are gone
 abbrev pub only_at : ℕ → Editor → Editor
 only_at place e = record e {
   place = place;
@@ -151,6 +173,8 @@ only_at place e = record e {
   message = None;
   quit_before = false;
   goal = None;
+  clicks = None;
+  pressed = None;
 }
 
 -- Outside a paste, TextEnd then TextStart leads to the text's start, TextStart then TextEnd to its end; else they change only what
@@ -225,6 +249,7 @@ abbrev pub finds : Key → Bool
 finds Find = true
 finds FindBack = true
 finds FindNext = true
+finds FindPrevious = true
 finds _ = false
 
 -- whether a key begins another search: one that finds, while the replacement is asked for

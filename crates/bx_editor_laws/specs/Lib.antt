@@ -11,3 +11,4 @@ pub mod WordLaws
 pub mod StoredLaws
 pub mod RefusalLaws
 pub mod InputLaws
+pub mod ViewLaws

@@ -6,6 +6,7 @@ use Rattle.bx_ucd.specs.Data.{Data}
 use Rattle.bx_view.specs.Numbers.{paragraph_at}
 use Rattle.bx_editor.specs.Editor.{Editor, place_after}
 use Rattle.bx_editor.specs.Keys.{after_key}
+use Rattle.bx_editor.specs.Putting.{new_indent}
 use Rattle.bx_editor_laws.specs.SelectionLaws.{IsRefused}
 use Rattle.bx_editor_laws.specs.WordLaws.{IsPlain}
 
@@ -29,10 +30,10 @@ cr_lf = 0xD ∷ 0xA ∷ []
 abbrev pub first_separator : Data → Editor → List ℕ
 first_separator d e = (paragraph_at d e.content.text 0).separator
 
--- CR LF goes in if it is the text's first separator, else LF
+-- CR LF goes in if it is the text's first separator, else LF; behind it the indent, where lines are indented
 pub record PutsSeparator (d : Data) (e new : Editor) : Type 0 where
-  pub crlf : first_separator d e ≡ cr_lf → PutsIfRoom d e cr_lf new
-  pub other : first_separator d e ≢ cr_lf → PutsIfRoom d e (0xA ∷ []) new
+  pub crlf : first_separator d e ≡ cr_lf → PutsIfRoom d e (cr_lf ++ new_indent d e) new
+  pub other : first_separator d e ≢ cr_lf → PutsIfRoom d e (0xA ∷ new_indent d e) new
 
 -- outside a search, a question and a paste, and without a selection, NewLine puts in so
 abbrev pub NewLinePutsSeparator : Type 0

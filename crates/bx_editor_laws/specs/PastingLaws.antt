@@ -15,7 +15,7 @@ use Rattle.bx_editor.specs.PasteLaws.{after_paste, place_between, written}
 use Rattle.bx_editor.specs.Putting.{paste_ended, pastes_crlf, has_room}
 use Rattle.bx_editor.specs.Region.{region, is_selection}
 use Rattle.bx_editor_laws.specs.Laws.{after_typing}
-use Rattle.bx_editor_laws.specs.RunLaws.{IsBackBefore}
+use Rattle.bx_editor_laws.specs.RunLaws.{AreTyped, IsBackBefore}
 
 -- ---- when a paste is under way
 
@@ -55,9 +55,9 @@ pub record TakesPasteBack (d : Data) (e : Editor) (cs : List ℕ) : Type 0 where
   pub with_room : e.pasted ≡ None → cs ≢ [] → has_room e (written d e.content.text cs) ≡ true
       → IsBackBefore e (after_key d None (after_paste d e cs) UndoRun)
 
--- so it is outside a search and a question
+-- so it is outside a search and a question, where the text is not only looked at
 abbrev pub PasteComesBack : Type 0
-PasteComesBack = (d : Data) (e : Editor) (cs : List ℕ) → IsFree e → TakesPasteBack d e cs
+PasteComesBack = (d : Data) (e : Editor) (cs : List ℕ) → IsFree e → e.read_only ≡ false → TakesPasteBack d e cs
 
 -- A typed character goes in at the cursor, after the selection is removed.
 abbrev pub typed_from : Data → Editor → ℕ
@@ -74,11 +74,12 @@ pub record HaveSameText (one other : Editor) : Type 0 where
   pub text_is : one.content.text ≡ other.content.text
   pub place_is : one.place ≡ other.place
 
--- outside a search, a question and a paste, pasted characters, none of which is pasted as CR LF, leave text and place as the same
+-- outside a search, a question and a paste, where the text is not only looked at, pasted characters, none of which is pasted as CR LF,
+-- and none of which is a tab that becomes spaces when it is typed, leave text and place as the same
 -- characters do when they are typed one by one, if there is room for all and the place after each is its end; the region is in the
 -- text, as in every editor of the code
 abbrev pub PasteIsTyping : Type 0
 PasteIsTyping =
-    (d : Data) (e : Editor) (cs : List ℕ) → IsFree e → e.pasted ≡ None → (region e).1 ≤ length e.content.text
-    → All (λ c. pastes_crlf d e.content.text c ≡ false) cs → has_room e (encode_utf8_all cs) ≡ true → EndAtTheirPlaces d e cs
+    (d : Data) (e : Editor) (cs : List ℕ) → IsFree e → e.pasted ≡ None → e.read_only ≡ false → (region e).1 ≤ length e.content.text
+    → All (λ c. pastes_crlf d e.content.text c ≡ false) cs → AreTyped e cs → has_room e (encode_utf8_all cs) ≡ true → EndAtTheirPlaces d e cs
     → HaveSameText (after_paste d e cs) (after_keys d None e (map Insert cs))

@@ -82,9 +82,11 @@ abbrev pub without_number : Message → Message
 without_number (Replaced n) = Replaced 0
 without_number message = message
 
--- two messages have the same words only if they are the same but for that number; what Tell says has no words here
+-- two messages with words have the same ones only if they are the same but for that number; what Tell says has no words here, and that text
+-- was cut is not told
 abbrev pub WordsTellMessages : Type 0
-WordsTellMessages = (one other : Message) → message_text one ≡ message_text other → without_number one ≡ without_number other
+WordsTellMessages =
+    (one other : Message) → message_text one ≢ [] → message_text one ≡ message_text other → without_number one ≡ without_number other
 
 -- a cause that only the host reports, and no fault of the system has
 abbrev pub is_of_host : SaveCause → Bool

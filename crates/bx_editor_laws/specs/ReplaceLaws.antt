@@ -48,12 +48,13 @@ ShownStands =
     → let start = at_start text height width base in HaveRows d start typed
     → let e = after_typing d start typed in e.search_state ≡ Replacing → StandsThere d e
 
--- a match is shown, as in an editor of the code, and no paste is under way
+-- a match is shown, as in an editor of the code, no paste is under way, and the text is not only looked at
 pub record IsShowing (d : Data) (e : Editor) : Type 0 where
   pub text : IsUtf8 e.content.text
   pub replacement : IsUtf8 e.replacement
   pub unasked : e.prompt ≡ prompts.Off
   pub settled : e.pasted ≡ None
+  pub writes : e.read_only ≡ false
   pub shown : e.search_state ≡ Replacing
   pub stands : StandsThere d e
 
@@ -169,10 +170,10 @@ ReplaceReplacesAll = (d : Data) (e : Editor) → IsShowing d e → ReplacesMatch
 abbrev pub DoesReplace : Key → Type 0
 DoesReplace key = (is_enter key ≡ true) ⊎ (key ≡ Replace)
 
--- outside a paste one UndoRun takes back all that a key replaced
+-- outside a paste, where the text is not only looked at, one UndoRun takes back all that a key replaced
 abbrev pub ReplacedComesBack : Type 0
 ReplacedComesBack =
-    (d : Data) (e : Editor) (key : Key) → e.prompt ≡ prompts.Off → e.search_state ≡ Replacing → e.pasted ≡ None → DoesReplace key
+    (d : Data) (e : Editor) (key : Key) → e.prompt ≡ prompts.Off → e.search_state ≡ Replacing → e.pasted ≡ None → e.read_only ≡ false → DoesReplace key
     → length e.content.past < length (after_key d None e key).content.past → IsBackBefore e (after_keys d None e (key ∷ UndoRun ∷ []))
 
 -- ---- replacing by the same letters

@@ -1,6 +1,6 @@
 -- Laws of undo groups, and of the text that was stored. `d`, `e` and `new` are as in Laws.antt.
-use Rattle.std.specs.Prelude.{◌≡◌, ◌≢◌, ℕ, ◌+◌, ◌-◌, ◌&&◌, ◌<◌, ◌≤◌, false, List, [], ◌∷◌, ◌++◌, length, map, replicate, encode_utf8_all}
-use Rattle.std.specs.Prelude.{All, Option, None, is_none, if◌then◌else◌}
+use Rattle.std.specs.Prelude.{◌≡◌, ◌≢◌, ℕ, ◌+◌, ◌-◌, ◌==◌, ◌&&◌, not, ◌<◌, ◌≤◌, false, List, [], ◌∷◌, ◌++◌, length, map, replicate, encode_utf8_all}
+use Rattle.std.specs.Prelude.{All, Option, None, is_none, is_some, if◌then◌else◌}
 use Rattle.bx_common.specs.Characters.{largest_text}
 use Rattle.bx_common.specs.declared.base.Base.{Base}
 use Rattle.bx_keys.specs.declared.key.Key.{Key}
@@ -16,7 +16,7 @@ use Rattle.bx_ucd.specs.Data.{Data}
 use Rattle.bx_editor.specs.declared.questions.answers.Prompt.TheVariants as prompts
 use Rattle.bx_editor.specs.declared.search_state.SearchState.TheVariants.{Off}
 use Rattle.bx_editor.specs.Editor.{Editor, at_start, is_changed_at}
-use Rattle.bx_editor.specs.Keys.{after_key, is_save}
+use Rattle.bx_editor.specs.Keys.{after_key, ends_paste, saving_of}
 use Rattle.bx_editor.specs.Functions.{after_keys}
 use Rattle.bx_editor.specs.Putting.{paste_ended}
 use Rattle.bx_editor_laws.specs.Laws.{after_typing, IsUnmarkedAt}
@@ -45,10 +45,10 @@ pub record RunsAreSteps (d : Data) (e : Editor) : Type 0 where
   pub undo : IsManySteps d e UndoRun Undo (undos e) e.content.past
   pub redo : IsManySteps d e RedoRun Redo (redos e) e.content.future
 
--- outside a paste UndoRun does what `undos` presses of Undo do, RedoRun what `redos` presses of Redo do, but for what counts as
--- changed
+-- Outside a paste UndoRun does what `undos` presses of Undo do, RedoRun what `redos` presses of Redo do, but for what counts as changed.
+-- Where the question is whether to overwrite a key only ends that, and a text that is only looked at has nothing to undo.
 abbrev pub RunKeysAreSteps : Type 0
-RunKeysAreSteps = (d : Data) (e : Editor) → e.pasted ≡ None → RunsAreSteps d e
+RunKeysAreSteps = (d : Data) (e : Editor) → e.pasted ≡ None → e.prompt ≢ prompts.Overwrite → e.read_only ≡ false → RunsAreSteps d e
 
 -- ---- there and back
 
@@ -68,11 +68,13 @@ pub record RunsAreMirrored (d : Data) (e : Editor) : Type 0 where
       → e.content.future ≡ edit ∷ future
       → IsUnmarkedAt edit.before.place (after_keys d None e (RedoRun ∷ UndoRun ∷ []))
 
--- UndoRun and RedoRun mirror each other so after anything that was typed over an opened text, unless a paste is under way
+-- UndoRun and RedoRun mirror each other so after anything that was typed over an opened text, unless a paste is under way, or the
+-- question is whether to overwrite
 abbrev pub RedoRunMirrorsUndoRun : Type 0
 RedoRunMirrorsUndoRun =
     (d : Data) (text : List ℕ) (height width : ℕ) (base : Base) (typed : List (Key × Option StoreFault))
-    → let e = after_typing d (at_start text height width base) typed in e.pasted ≡ None → RunsAreMirrored d e
+    → let e = after_typing d (at_start text height width base) typed in
+    e.pasted ≡ None → e.prompt ≢ prompts.Overwrite → RunsAreMirrored d e
 
 -- ---- what is one undo group
 
@@ -92,21 +94,30 @@ pub record IsWord (d : Data) (letters blanks : List ℕ) : Type 0 where
   pub are_letters : AreOfKind d Letter letters
   pub are_blanks : AreOfKind d Blank blanks
 
--- outside a search, a question and a paste, and where the first letter goes on with no undo group, one UndoRun takes back a typed
--- word and the blanks after it, if there was room for them
+-- none of these characters is a tab that becomes spaces
+abbrev pub AreTyped : Editor → List ℕ → Type 0
+AreTyped e cs = All (λ c. ((c == 0x9) && not (e.tab_width == 0)) ≡ false) cs
+
+-- outside a search, a question and a paste, where the text is not only looked at, and where the first letter goes on with no undo group,
+-- one UndoRun takes back a typed word and the blanks after it, if there was room for them, and no tab among them becomes spaces
 abbrev pub WordIsARun : Type 0
 WordIsARun =
     (d : Data) (e : Editor) (letters blanks : List ℕ) → e.prompt ≡ prompts.Off → e.search_state ≡ Off → e.pasted ≡ None → e.typing ≡ typings.Off
-    → IsWord d letters blanks
+    → e.read_only ≡ false → IsWord d letters blanks → AreTyped e (letters ++ blanks)
     → length e.content.text + length (encode_utf8_all (letters ++ blanks)) ≤ largest_text
     → IsBackBefore e (after_key d None (after_keys d None e (map Insert (letters ++ blanks))) UndoRun)
 
 -- ---- what counts as changed
 
--- the text that was stored last, after a key: the editor's own if the key is a Save that succeeds, with what a paste has brought
--- that is under way, else `text`, the one before
+-- the editor as a key finds it: one that ends a paste ends it first
+abbrev pub saving_editor : Data → Editor → Key → Editor
+saving_editor d e key = if ends_paste key then paste_ended d e else e
+
+-- The text that was stored last, after a key: the editor's own if the key stores it, as `saving_of` tells (a Save, or an answer), and
+-- that succeeds, with what a paste has brought that is under way; else `text`, the one before
 abbrev pub stored_by : Data → List ℕ → Editor → Key → Option StoreFault → List ℕ
-stored_by d text e key fault = if is_save key && is_none fault then (paste_ended d e).content.text else text
+stored_by d text e key fault =
+    if is_some (saving_of (saving_editor d e key) key) && is_none fault then (saving_editor d e key).content.text else text
 
 -- the text that was stored last, while these keys are typed; `text` was stored, or opened, before them
 abbrev pub stored_last : Data → List ℕ → Editor → List (Key × Option StoreFault) → List ℕ

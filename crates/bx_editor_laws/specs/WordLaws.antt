@@ -13,12 +13,14 @@ use Rattle.bx_editor.specs.Keys.{after_key}
 use Rattle.bx_editor.specs.Region.{is_selection}
 use Rattle.bx_editor_laws.specs.RunLaws.{IsBackBefore}
 
--- outside a search, a question and a paste, and without a selection; the text is UTF-8, as in every editor of the code
+-- outside a search, a question and a paste, without a selection, and where the text is not only looked at; it is UTF-8, as in every
+-- editor of the code
 pub record IsPlain (e : Editor) : Type 0 where
   pub text : IsUtf8 e.content.text
   pub unasked : e.prompt ≡ prompts.Off
   pub unsought : e.search_state ≡ Off
   pub settled : e.pasted ≡ None
+  pub writes : e.read_only ≡ false
   pub unselected : is_selection e ≡ false
 
 -- The bytes from one offset to another are gone, and no others. The cursor is at the first place at or after the seam, no mark is

@@ -3,7 +3,7 @@
 use Rattle.std.specs.Prelude.{◌≡◌, ◌≢◌, ℕ, ◌+◌, ◌*◌, ◌<◌, ◌≤◌, Bool, true, false, List, [], ◌∷◌, ◌++◌, length, take, drop, replicate}
 use Rattle.std.specs.Prelude.{Some, None, All, Contains}
 use Rattle.bx_keys.specs.declared.key.Key.{Key}
-use Rattle.bx_keys.specs.declared.key.Key.TheVariants.{ErasePoint, Find, FindNext, LineDown, LineUp, PageBack, PageOn}
+use Rattle.bx_keys.specs.declared.key.Key.TheVariants.{ErasePoint, Find, FindBack, FindNext, FindPrevious, LineDown, LineUp, PageBack, PageOn}
 use Rattle.bx_ucd.specs.Data.{Data}
 use Rattle.bx_editor.specs.declared.questions.answers.Prompt.TheVariants as prompts
 use Rattle.bx_rows.specs.RowPicture.{columns_used}
@@ -17,7 +17,7 @@ use Rattle.bx_view.specs.TextRows.{TextRow, cell_of, row_at, row_of}
 use Rattle.bx_editor.specs.declared.search_state.SearchState.TheVariants.{Off}
 use Rattle.bx_editor.specs.Editor.{Editor, rows, text_height}
 use Rattle.bx_editor.specs.Functions.{HasRows, after_keys}
-use Rattle.bx_editor.specs.Erasing.{point_before}
+use Rattle.bx_editor.specs.Erasing.{is_behind_spaces, point_before}
 use Rattle.bx_editor.specs.Keys.{after_key}
 use Rattle.bx_editor.specs.Scrolling.{page_rows}
 use Rattle.bx_editor.specs.Search.{sought}
@@ -32,21 +32,27 @@ pub record ErasesEnd (d : Data) (e new : Editor) : Type 0 where
   pub before_place : point_before d e ≤ e.place
 
 -- outside a search, a question and a paste, and without a selection, ErasePoint leaves all before the point, and all after the
--- place
+-- place; but of the spaces that stand for a tab it removes more
 abbrev pub ErasePointLeavesBeginning : Type 0
 ErasePointLeavesBeginning =
-    (d : Data) (e : Editor) → HasRows e → e.prompt ≡ prompts.Off → e.search_state ≡ Off → e.pasted ≡ None → is_selection e ≡ false
-    → IsTextPlace d e.content.text e.place
+    (d : Data) (e : Editor) → HasRows e → e.prompt ≡ prompts.Off → e.search_state ≡ Off → e.pasted ≡ None → e.read_only ≡ false → is_selection e ≡ false
+    → is_behind_spaces d e ≡ false → IsTextPlace d e.content.text e.place
     → ErasesEnd d e (after_key d None e ErasePoint)
 
 -- ---- the next match
 
--- outside a search FindNext leads to where Find and then Find lead, with the same message, if the query has letters; but no
--- search is on, and the place at which the latest search began stays
+-- Outside a search FindNext leads to where Find and then Find lead, with the same message, if the query has letters; but no search is
+-- on, and the cursor of an input line stays. In the question whether to overwrite it only ends that.
 abbrev pub FindNextIsFindTwice : Type 0
 FindNextIsFindTwice =
-    (d : Data) (e : Editor) → e.search_state ≡ Off → sought d e ≢ []
-    → after_key d None e FindNext ≡ record (after_keys d None e (Find ∷ Find ∷ [])) { search_state = Off; origin = e.origin }
+    (d : Data) (e : Editor) → e.search_state ≡ Off → sought d e ≢ [] → e.prompt ≢ prompts.Overwrite
+    → after_key d None e FindNext ≡ record (after_keys d None e (Find ∷ Find ∷ [])) { search_state = Off; input_cursor = e.input_cursor }
+
+-- FindPrevious leads so to where Find and then FindBack lead
+abbrev pub FindPreviousIsFindBack : Type 0
+FindPreviousIsFindBack =
+    (d : Data) (e : Editor) → e.search_state ≡ Off → sought d e ≢ [] → e.prompt ≢ prompts.Overwrite
+    → after_key d None e FindPrevious ≡ record (after_keys d None e (Find ∷ FindBack ∷ [])) { search_state = Off; input_cursor = e.input_cursor }
 
 -- ---- moves from row to row and back
 

@@ -44,8 +44,8 @@ pub fn letter_isolates()
     ensures { LetterIsolates }
 {}
 
-/// Whatever was typed over an opened text: an answer is short, its characters are narrow, and a terminal shows each glyph of a
-/// prompt in the glyph's columns.
+/// Whatever was typed over an opened text: an answer is short, and a terminal shows each glyph of a prompt, of its words and of what is
+/// typed behind them, in the glyph's columns.
 pub fn prompts_are_shown()
     ensures { PromptsAreShown }
 {}
@@ -55,7 +55,7 @@ pub fn tells_what_stands()
     ensures { TellsWhatStands }
 {}
 
-/// Outside a paste, Tell shows what is told of the unit at the place on the status row, and leaves text, place, held text and mark.
+/// Outside a paste and the question whether to overwrite, Tell shows what is told of the unit at the place on the status row, and leaves text, place, held text and mark.
 pub fn tell_shows()
     ensures { TellShows }
 {}

@@ -9,13 +9,13 @@ pub fn top_stays()
     ensures { TopStays }
 {}
 
-/// Undoing everything outside a paste restores the opened text, whatever was typed, with the cursor where it was before the oldest
-/// edit.
+/// Undoing everything restores the opened text, whatever was typed, with the cursor where it was before the oldest edit; but outside a
+/// paste and the question whether to overwrite, which the first Undo only ends.
 pub fn undo_gives_back()
     ensures { UndoGivesBack }
 {}
 
-/// Outside a paste, Undo then Redo leaves text, past and future unchanged, and the cursor at its place after the edit. Redo then Undo
+/// Outside a paste and the question whether to overwrite, Undo then Redo leaves text, past and future unchanged, and the cursor at its place after the edit. Redo then Undo
 /// leaves them unchanged, and the cursor at its place before the edit.
 pub fn redo_mirrors_undo()
     ensures { RedoMirrorsUndo }
@@ -49,8 +49,8 @@ pub fn giving_up_goes_back()
     ensures { GivingUpGoesBack }
 {}
 
-/// Outside a paste, Mark twice at one place changes only the message and what one Mark ends, as a search; but a mark that was
-/// elsewhere is gone.
+/// Outside a paste, an input line and the question whether to overwrite, Mark twice at one place changes only the message and what one
+/// Mark ends, as a search; but a mark that was elsewhere is gone.
 pub fn mark_twice_is_nothing()
     ensures { MarkTwiceIsNothing }
 {}

@@ -2,6 +2,7 @@
 #![tactic(auto)]
 
 mod asking_laws;
+mod input_laws;
 mod laws;
 mod line_laws;
 mod pasting_laws;
@@ -10,6 +11,7 @@ mod refusal_laws;
 mod replace_laws;
 mod run_laws;
 mod selection_laws;
+mod view_laws;
 mod word_laws;
 mod work_laws;
 
@@ -18,6 +20,7 @@ pub use asking_laws::{
     prompts_are_shown, questions_change_themselves, tell_shows, tells_what_stands,
     told_numbers_lead_back,
 };
+pub use input_laws::{keys_are_letters, line_keys_keep_prompt, only_answers_overwrite};
 pub use laws::{
     copy_puts_twice, find_back_goes_to_previous, find_goes_to_next, giving_up_goes_back,
     goes_to_both_ends, mark_twice_is_nothing, put_restores_cut, redo_mirrors_undo, top_stays,
@@ -27,7 +30,7 @@ pub use line_laws::new_line_puts_separator;
 pub use pasting_laws::{
     keys_end_pastes, paste_comes_back, paste_is_typing, pastes_are_alone, pastes_end_by_keys,
 };
-pub use pointing_laws::{point_stays, point_takes_units, point_twice_is_once};
+pub use pointing_laws::{drags_take_both, point_stays, point_takes_units, three_presses_take};
 pub use refusal_laws::{
     kinds_tell_causes, opening_has_one_cause, refusable_keys_change_texts,
     unrefused_keys_keep_texts, words_tell_causes, words_tell_messages,
@@ -44,8 +47,9 @@ pub use selection_laws::{
     cancel_unmarks, move_takes_selection_off, seeking_takes_selection_off, selection_comes_back,
     selection_gives_way, selection_is_removed,
 };
+pub use view_laws::view_keeps_text;
 pub use word_laws::word_keys_erase;
 pub use work_laws::{
-    column_is_kept, erase_point_leaves_beginning, find_next_is_find_twice, kept_moves_go_back,
-    line_moves_go_back, page_moves_go_back,
+    column_is_kept, erase_point_leaves_beginning, find_next_is_find_twice,
+    find_previous_is_find_back, kept_moves_go_back, line_moves_go_back, page_moves_go_back,
 };

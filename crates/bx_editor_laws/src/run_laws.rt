@@ -26,8 +26,9 @@ pub fn unchanged_is_stored()
     ensures { UnchangedIsStored }
 {}
 
-/// Outside a paste, UndoRun and RedoRun find the text unchanged that a Save stored, or that was opened, if they lead back to it by
-/// its number of edits; any other text is changed. So it is until another text is stored, or an edit drops the stored one.
+/// Outside a paste and the question whether to overwrite, UndoRun and RedoRun find the text unchanged that a Save or an answer stored, or
+/// that was opened, if they lead back to it by its number of edits; any other text is changed. So it is until another text is stored, or an
+/// edit drops the stored one.
 pub fn stored_is_unchanged()
     ensures { StoredIsUnchanged }
 {}

@@ -1,18 +1,23 @@
 //! Laws of ErasePoint, FindNext, and the moves that keep their column. The functions are empty: their contracts are the laws.
 
-ghost use Rattle.bx_editor_laws.specs.WorkLaws.{ColumnIsKept, ErasePointLeavesBeginning, FindNextIsFindTwice, KeptMovesGoBack};
+ghost use Rattle.bx_editor_laws.specs.WorkLaws.{ColumnIsKept, ErasePointLeavesBeginning, FindNextIsFindTwice, FindPreviousIsFindBack, KeptMovesGoBack};
 ghost use Rattle.bx_editor_laws.specs.WorkLaws.{LineMovesGoBack, PageMovesGoBack};
 
 /// Outside a search, a question and a paste, without a selection, ErasePoint removes the end of the unit before the place, from the start
-/// of its last point on, and leaves all text before and after that.
+/// of its last point on, and leaves all text before and after that; of the spaces that stand for a tab it removes more.
 pub fn erase_point_leaves_beginning()
     ensures { ErasePointLeavesBeginning }
 {}
 
-/// Outside a search, FindNext leads to the place and the message to which Find twice leads, if the query has letters. After it no
-/// search is on, and the place at which the latest search began stays.
+/// Outside a search, and where the question is not whether to overwrite, FindNext leads to the place and the message to which Find twice
+/// leads, if the query has letters. After it no search is on, and the cursor of an input line stays.
 pub fn find_next_is_find_twice()
     ensures { FindNextIsFindTwice }
+{}
+
+/// FindPrevious leads so to where Find and then FindBack lead.
+pub fn find_previous_is_find_back()
+    ensures { FindPreviousIsFindBack }
 {}
 
 /// Outside a search, a question and a paste, with no column kept: LineDown `n` times and then LineUp `n` times lead back to the place, if there are `n` rows below; LineUp and then

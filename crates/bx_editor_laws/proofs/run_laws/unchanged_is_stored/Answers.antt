@@ -1,4 +1,4 @@
-use Rattle.bx_editor_laws.proofs.StoredText.{unchanged-is-stored}
+use Rattle.bx_editor_laws.proofs.StoredKeys.{unchanged-is-stored}
 use Rattle.bx_editor_laws.proofs.run_laws.unchanged_is_stored.Goals as goal
 
 pub returns : goal.returns

@@ -1,0 +1,55 @@
+-- Worked examples, each from a law of prompts alone.
+use Rattle.std.proofs.Common.{◌≡◌, [], ◌∷◌, ◌++◌, refl, ap}
+use Rattle.std.specs.Prelude.{◌≢◌, codes, Some, None}
+use Rattle.std.specs.Fmt.{digits}
+use Rattle.ucd_case.proofs.Computing.{ucd_case}
+use Rattle.unicode_normalization.proofs.Computing.{unicode_normalization}
+use Rattle.unicode_segmentation.proofs.Computing.{unicode_segmentation}
+use Rattle.unicode_width.proofs.Computing.{unicode_width}
+use Rattle.bx_keys.specs.declared.key.Key.TheVariants.{AskOverwrite, Find, Insert, Mark, Name, Save}
+use Rattle.bx_editor.specs.declared.questions.answers.Prompt.TheVariants as prompts
+use Rattle.bx_editor.specs.declared.search_state.SearchState.TheVariants.{Off}
+use Rattle.bx_editor.specs.Editor.{Editor}
+use Rattle.bx_editor.specs.Keys.{saving_of}
+use Rattle.bx_editor.specs.Saving.{Over}
+use Rattle.bx_editor_laws.specs.InputLaws.{KeysAreLetters, LineKeysKeepPrompt, OnlyAnswersOverwrite}
+use Rattle.bx_editor.proofs.Computed.{tables, start, after}
+
+-- ---- letters by their keys
+
+-- a character's name is asked for
+abbrev named : Editor
+named = after (start (codes "ab") 2 40) (Name ∷ [])
+
+-- final kaf is on the key of l, which names a left-to-right mark
+pub the_key_of_l_is_l : KeysAreLetters → (after named (Insert 0x5DA ∷ [])).content.text ≡ 0xE2 ∷ 0x80 ∷ 0x8E ∷ codes "ab"
+unfolding unicode_segmentation unicode_width digits
+the_key_of_l_is_l law = ap (λ (e : Editor). e.content.text) ((law tables None named 0x5DA 0x6C refl refl refl).name refl)
+
+-- ---- a prompt
+
+-- b is sought
+abbrev sought : Editor
+sought = after (start (codes "ab") 2 40) (Find ∷ Insert 0x62 ∷ [])
+
+pub mark_ends_no_search : LineKeysKeepPrompt → (after sought (Mark ∷ [])).search_state ≢ Off
+unfolding unicode_segmentation unicode_width digits unicode_normalization ucd_case
+mark_ends_no_search law = (law tables None sought (codes "b") Mark refl refl refl refl).asked.search (λ off. cc off)
+
+pub a_letter_of_a_query_is_none_of_the_text : LineKeysKeepPrompt → (after sought (Insert 0x63 ∷ [])).content.text ≡ codes "ab"
+unfolding unicode_segmentation unicode_width digits unicode_normalization ucd_case
+a_letter_of_a_query_is_none_of_the_text law = ap (λ t. t.text) (law tables None sought (codes "b") (Insert 0x63) refl refl refl refl).text
+
+-- ---- overwriting
+
+-- it is asked whether to overwrite
+abbrev decided : Editor
+decided = after (start (codes "ab") 2 40) (AskOverwrite ∷ [])
+
+pub y_overwrites : OnlyAnswersOverwrite → saving_of decided (Insert 0x79) ≡ Some Over
+unfolding unicode_segmentation unicode_width digits
+y_overwrites law = (law tables None decided Save).answer 0x79 refl refl refl refl
+
+pub a_save_only_declines : OnlyAnswersOverwrite → (after decided (Save ∷ [])).prompt ≡ prompts.Off
+unfolding unicode_segmentation unicode_width digits
+a_save_only_declines law = (law tables None decided Save).declined refl refl
