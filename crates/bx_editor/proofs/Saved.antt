@@ -9,7 +9,7 @@ use Rattle.bx_editor.specs.declared.questions.answers.Prompt.{Prompt}
 use Rattle.bx_editor.specs.declared.questions.answers.Prompt.TheVariants as prompts
 use Rattle.bx_editor.specs.Editor.{Editor}
 use Rattle.bx_editor.specs.Saving.{after_confirming, after_deciding, after_naming, after_save, after_saving, after_saving_under, asked_over}
-use Rattle.bx_editor.specs.Saving.{asking_name, confirms, is_changed, is_nameless, takes_name, with_answered_name}
+use Rattle.bx_editor.specs.Saving.{asking_name, confirms, is_changed, is_nameless, takes_name, with_answered_name, without_answer}
 
 -- what is stored, told, asked and named keeps this property of editors
 pub record IsKeptSaving (P : Editor → Type 0) : Type 0 where
@@ -40,8 +40,8 @@ module _ (P : Editor → Type 0) (keeps : IsKeptSaving P) where
 
   under : (fault : Option StoreFault) (e : Editor) → P e → P (after_saving_under fault e)
   under fault e h =
-      save-keeps fault (if takes_name e fault then with_answered_name e else e)
-      (either (takes_name e fault) (with_answered_name e) e (keeps.named e (Some e.answer) [] h) h)
+      save-keeps fault (if takes_name e fault then with_answered_name e else without_answer e)
+      (either (takes_name e fault) (with_answered_name e) (without_answer e) (keeps.named e (Some e.answer) [] h) (keeps.named e e.name [] h))
 
   pub naming-keeps : (fault : Option StoreFault) (e : Editor) → P e → P (after_naming fault e)
   naming-keeps fault e h = either (length e.answer == 0) e (after_saving_under fault e) h (under fault e h)

@@ -5,7 +5,7 @@ use Rattle.bx_editor.specs.declared.search_state.SearchState.TheVariants as sear
 use Rattle.bx_editor.specs.declared.questions.answers.Prompt.TheVariants as prompts
 use Rattle.bx_editor.specs.Editor.{Editor}
 use Rattle.bx_editor.specs.Region.{aged}
-use Rattle.bx_editor.specs.Saving.{with_answered_name}
+use Rattle.bx_editor.specs.Saving.{with_answered_name, without_answer}
 
 -- a Quit outside a search and a question ends what any key ends, and does nothing else
 abbrev pub after_passed_quit : Editor → Editor
@@ -18,7 +18,7 @@ after_passed_save e = record (after_passed_quit e) { search_state = search_state
 
 -- the answer that saves under a name becomes the name where saves go to no file yet, as it does whether or not its save succeeds
 abbrev pub after_passed_answer : Editor → Editor
-after_passed_answer e = after_passed_save (if is_some e.name && not e.home then with_answered_name e else e)
+after_passed_answer e = after_passed_save (if is_some e.name && not e.home then with_answered_name e else without_answer e)
 
 -- at the end no search is on, nothing is asked, and the next edit begins an undo group; the text is the stored one unless it counts
 -- as changed

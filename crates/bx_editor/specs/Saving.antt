@@ -83,13 +83,17 @@ after_saving fault e = if is_nameless e then asking_name e else after_save e fau
 abbrev pub with_answered_name : Editor → Editor
 with_answered_name e = record e { name = Some e.answer; answer = [] }
 
+-- the answer is no name, and forgotten
+abbrev pub without_answer : Editor → Editor
+without_answer e = record e { answer = [] }
+
 -- the answer becomes the name of a session that has one, where the save succeeded, or where saves go to no file yet
 abbrev pub takes_name : Editor → Option StoreFault → Bool
 takes_name e fault = is_some e.name && (not e.home || not (is_some fault))
 
 -- the text was stored under the answer, or was not
 abbrev pub after_saving_under : Option StoreFault → Editor → Editor
-after_saving_under fault e = after_save (if takes_name e fault then with_answered_name e else e) fault
+after_saving_under fault e = after_save (if takes_name e fault then with_answered_name e else without_answer e) fault
 
 -- the question for a name is answered: an empty answer saves nothing
 abbrev pub after_naming : Option StoreFault → Editor → Editor

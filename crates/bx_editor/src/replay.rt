@@ -44,6 +44,8 @@ impl<D: BidiData + Drop> Editor<D> {
         self.leave_question();
         if self.name.is_some() && !self.home {
             self.take_name();
+        } else {
+            self.answer.clear();
         }
         self.pass_save();
     }

@@ -207,6 +207,8 @@ impl<D: BidiData + Drop> Editor<D> {
         }
         if self.takes_name(fault) {
             self.take_name();
+        } else {
+            self.answer.clear();
         }
         self.note_end(fault);
     }
