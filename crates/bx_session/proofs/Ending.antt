@@ -131,7 +131,7 @@ unpasted : (pasted : Bool) (saving : Option Saving) → is_some (if pasted && fa
 unpasted true saving = refl
 unpasted false saving = refl
 
-save_stores : (e : Editor) → stores e Save ≡ saves_at (place_of e) e.prompt
+pub save_stores : (e : Editor) → stores e Save ≡ saves_at (place_of e) e.prompt
 save_stores e = unpasted (is_some e.pasted) (saving_by e e.prompt Save answers.Ends) ∙ save_at e e.prompt
 
 save_stores_ahead : (d : Data) (e : Editor) → stores (paste_ended d e) Save ≡ stores e Save
