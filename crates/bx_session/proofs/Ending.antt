@@ -245,7 +245,7 @@ quit_passed {D} ucd old mid new is passed =
     ∙ ap (λ (s : Session). record old { session = s }) (quit_session d e.prompt e.search_state old.session)
 
 -- a key that stored the text, and any other
-stored_session : (d : Data) (prompt : Prompt) (search_state : SearchState) (s : Session) (key : Key) → stores s.editor key ≡ true
+pub stored_session : (d : Data) (prompt : Prompt) (search_state : SearchState) (s : Session) (key : Key) → stores s.editor key ≡ true
     → session_after_replayed d prompt search_state s key ≡ record s { editor = after_passed prompt key (paste_ended d s.editor) }
 stored_session d prompt search_state s Quit h = let none : false ≡ true = sym (quit_stores_nothing s.editor) ∙ h in absurd (cc none)
 stored_session d prompt search_state s key h =
