@@ -14,6 +14,12 @@ pub mod Sought
 pub mod InSearch
 pub mod Saved
 pub mod LinePutsKept
+pub mod LinePutsLeft
+pub mod FirstLine
+pub mod LineLength
+pub mod InLine
+pub mod EditsOrMoves
+pub mod Stores
 pub mod QuestionSteps
 pub mod Searches
 pub mod EffectsKept
