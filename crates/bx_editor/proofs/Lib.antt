@@ -10,6 +10,8 @@ pub mod StatusRow
 pub mod TopOnce
 pub mod OnItsCell
 pub mod Begin
+pub mod InLine
+pub mod EditsOrMoves
 pub mod Sought
 pub mod InSearch
 pub mod Saved
