@@ -1,55 +1,58 @@
 -- A journal's bytes restore the session.
 use Rattle.std.proofs.Common.{◌≡◌, ◌≢◌, ℕ, Bool, true, false, List, [], ◌∷◌, ◌++◌, Option, Some, None, Result, Ok, Err, length, refl, sym, ap, subst, ◌∙◌, ◌⊎◌, inl}
 use Rattle.std.proofs.Common.{inr, not, if◌then◌else◌, arith}
-use Rattle.std.specs.Prelude.{◌||◌, ◌&&◌, IfSome, option_map, option_to_list}
+use Rattle.std.specs.Prelude.{◌||◌, ◌&&◌, IfSome, is_some, option_map, option_to_list}
 use Rattle.std.specs.Io.KnownBytes.{Appends}
 use Rattle.std.proofs.lemmas.List.{append-nil}
 use Rattle.std.proofs.lemmas.List.Elements.{All-tail}
-use Rattle.bx_common.specs.declared.base.Base.{Base}
 use Rattle.bx_keys.specs.declared.key.Key.{Key}
-use Rattle.bx_keys.specs.declared.key.Key.TheVariants.{Quit}
+use Rattle.bx_keys.specs.declared.key.Key.TheVariants.{Quit, Save}
 use Rattle.bx_keys.specs.Keys.{key_after}
 use Rattle.bx_text.specs.Edits.{Edit}
 use Rattle.bx_store.specs.declared.store.StoreFault.{StoreFault}
 use Rattle.bx_ucd.specs.Data.{Data}
 use Rattle.bx_editor.specs.declared.questions.answers.Prompt.{Prompt}
 use Rattle.bx_editor.specs.declared.questions.answers.Prompt.TheVariants as prompts
-use Rattle.bx_editor.specs.declared.message.Message.TheVariants.{Unsaved}
-use Rattle.bx_editor.specs.Editor.{Editor, after_save, cleared}
-use Rattle.bx_editor.specs.Effects.{before}
+use Rattle.bx_editor.specs.Editor.{Editor}
 use Rattle.bx_editor.specs.Putting.{paste_ended}
 use Rattle.bx_editor.specs.Replay as replay
-use Rattle.bx_editor.specs.Replay.{after_passed_save}
+use Rattle.bx_editor.specs.Replay.{after_passed_answer, after_passed_save}
+use Rattle.bx_editor.specs.Saving.{is_empty_name, with_answered_name, without_answer}
 use Rattle.bx_editor.specs.declared.search_state.SearchState.{SearchState}
-use Rattle.bx_editor.specs.declared.search_state.SearchState.TheVariants.{Off}
-use Rattle.bx_editor.specs.Keys.{after_any, after_key, is_save}
+use Rattle.bx_editor.specs.declared.search_state.SearchState.TheVariants.{Off, Begun, Typed, WithBegun, WithTyped, Replacing}
+use Rattle.bx_editor.specs.Keys.{after_key}
 use Rattle.bx_session.specs.declared.status.Refused.{Refused}
 use Rattle.bx_session.specs.declared.status.Refused.TheVariants as refused
 use Rattle.bx_session.specs.declared.status.Status.{Status}
 use Rattle.bx_session.specs.declared.journal.Backlog.{Backlog}
 use Rattle.bx_session.specs.declared.journal.Backlog.TheVariants.{Empty}
-use Rattle.bx_session.specs.Beginning.{Beginning, after_going_to, at_offset, begun, changed_if}
+use Rattle.bx_session.specs.Beginning.{Beginning, after_going_to, at_offset, begun, changed_if, opened}
 use Rattle.bx_editor.specs.Picture.{scrolled}
-use Rattle.bx_session.specs.Session.{clipboard_if, Session, at_opening, StoreAfter, StoreState, is_save_byte, is_save_key}
+use Rattle.bx_session.specs.Parts.{is_quit}
+use Rattle.bx_session.specs.Session.{clipboard_if, Session, StoreAfter, StoreState, is_save_byte, stores_by}
 use Rattle.bx_session.specs.Session.{text_to_save}
 use Rattle.bx_session.specs.Journal.{HasKept, RecorderState, is_lost, waiting}
 use Rattle.bx_session.specs.Laws.{after_replaying}
-use Rattle.bx_session_laws.specs.Recovery.{HasAll, HasBack, IsKnown, IsSettled, JournalsGiveBack, RefusesNoKey, TellsChanges, once_pasted}
+use Rattle.bx_session_laws.specs.Recovery.{FindsNoChange, HasAll, HasBack, IsKnown, IsNamed, IsSettled, JournalsGiveBack, NamesAgree, PastesAlone}
+use Rattle.bx_session_laws.specs.Recovery.{RefusesNoKey, TellsChanges, once_pasted}
 use Rattle.bx_session.specs.Running.{ByteAnswer, FeedsAll, bytes_of}
 use Rattle.bx_session.specs.Feeding.{Feeds, is_applied}
-use Rattle.bx_session.specs.Replaying.{after_all_replayed, after_replay, after_replayed, at_replay_end, replayed_on}
+use Rattle.bx_session.specs.Replaying.{after_all_replayed, after_passed, after_replay, after_replayed, at_replay_end, replayed_on}
 use Rattle.bx_session_laws.proofs.Alike.{Work, work, after_deeds}
 use Rattle.bx_session_laws.proofs.KeysAlike.{ended_alike, key_alike}
 use Rattle.bx_session_laws.proofs.Deeds.{Knows, Tells, Traces, deeds_know, deeds_tell, deeds_trace, knows_text, traced_text}
-use Rattle.bx_session_laws.proofs.Lasting.{Lasting, lasting, having}
-use Rattle.bx_session.proofs.KeyKinds.{not_saving}
-use Rattle.bx_session.proofs.Ending.{quit_user}
-use Rattle.bx_session_laws.proofs.Recovered.{Follows, Points, PointsAny, PointsByte, PointsOn, all_follow, byte_follows}
-use Rattle.bx_session_laws.proofs.RecoveredParts.{begins_alike, begins_top, ended_back, over_none}
+use Rattle.bx_session_laws.proofs.Lasting.{Lasting, Serves, lasting, having}
+use Rattle.bx_session_laws.proofs.Names.{agree_on, deeds_stay, ended_home, ended_name}
+use Rattle.bx_session_laws.proofs.SavedAlike.{passed_work, saved_work, stored_kind, stored_work, stores_alike, with_name}
+use Rattle.bx_session.proofs.KeyKinds.{is_other, not_quitting, not_storing, quit_stores_nothing, stores}
+use Rattle.bx_session.proofs.KeySizes.{user_pasted}
+use Rattle.bx_session.proofs.Ending.{over, quit_user}
+use Rattle.bx_session_laws.proofs.Recovered.{Follows, Points, PointsAny, PointsByte, PointsOn, all_follow, byte_follows, keeps_alone, key_is, serves}
+use Rattle.bx_session_laws.proofs.RecoveredParts.{begins_alike, begins_top, ended_back, home_named, over_none}
 use Rattle.bx_session_laws.proofs.TopsAlike.{points_on}
 use Rattle.bx_session.proofs.Leaving.{byte_leaves, editor_after}
-use Rattle.bx_session.proofs.Replayed.{applies, each-replayed}
-use Rattle.bx_session_laws.proofs.WorkKept.{quit_works, save_works}
+use Rattle.bx_session.proofs.Replayed.{applies, each-replayed, quit_replayed}
+use Rattle.bx_session_laws.proofs.WorkKept.{quit_leaves, quit_works}
 use Rattle.bx_session_laws.proofs.Versions.{version, version_here}
 
 -- ---- a replay counts as unchanged only with the opened text and no past
