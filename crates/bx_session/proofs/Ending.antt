@@ -111,7 +111,7 @@ pub same_place : (d : Data) (e : Editor) → place_of (paste_ended d e) ≡ plac
 same_place d e = stays_at d (place_of e) e refl
 
 -- so a Save stores the text where it did
-abbrev saves_at : Place → Prompt → Bool
+abbrev pub saves_at : Place → Prompt → Bool
 saves_at at prompts.Overwrite = false
 saves_at at prompt = not (at.read_only || is_empty_name at.name)
 
@@ -228,18 +228,16 @@ each-session d prompt search_state s P quit other Quit = quit
 each-session d prompt search_state s P quit other key = other key refl
 
 -- a Quit that gives up a search or a question
-given_up : (d : Data) (prompt : Prompt) (s : Session)
-    → (if stores s.editor Quit then record s { editor = after_passed prompt Quit (paste_ended d s.editor) } else session_after_key d None s Quit)
-    ≡ session_after_key d None s Quit
-given_up d prompt s =
-    unless_stored (stores s.editor Quit) (record s { editor = after_passed prompt Quit (paste_ended d s.editor) }) (session_after_key d None s Quit)
-    (quit_stores_nothing s.editor)
-
 pub quits_with : (d : Data) (prompt : Prompt) (search_state : SearchState) (s : Session)
     → ((prompt ≡ prompts.Off) × (search_state ≡ Off) → ⊥) → session_after_replayed d prompt search_state s Quit ≡ session_after_key d None s Quit
 quits_with d prompts.Off Off s other = absurd (other (refl, refl))
-quits_with d prompts.Off search_state s other = given_up d prompts.Off s
-quits_with d prompt search_state s other = given_up d prompt s
+quits_with d prompts.Off search_state s other = refl
+quits_with d prompt search_state s other = refl
+
+-- a key that is not Quit
+pub not_quit : (key : Key) → (key ≡ Quit → ⊥) → is_quit (Some key) ≡ false
+not_quit Quit other = absurd (other refl)
+not_quit key other = refl
 
 quit_first : (d : Data) (s : Session)
     → session_after_key d None (record s { editor = paste_ended d s.editor }) Quit ≡ session_after_key d None s Quit
@@ -250,10 +248,8 @@ quit_session : (d : Data) (prompt : Prompt) (search_state : SearchState) (s : Se
 quit_session d prompts.Off Off s =
     let e : Editor = paste_ended d s.editor in
     ap (λ (x : Editor). record s { editor = after_passed_quit x }) (not_pasting d e (over d s.editor))
-quit_session d prompts.Off search_state s =
-    given_up d prompts.Off (record s { editor = paste_ended d s.editor }) ∙ quit_first d s ∙ sym (given_up d prompts.Off s)
-quit_session d prompt search_state s =
-    given_up d prompt (record s { editor = paste_ended d s.editor }) ∙ quit_first d s ∙ sym (given_up d prompt s)
+quit_session d prompts.Off search_state s = quit_first d s
+quit_session d prompt search_state s = quit_first d s
 
 -- a Quit, once the paste has ended
 pub quit_passed : {D : Type 0} (ucd : D → Data) (old mid new : SessionState D)

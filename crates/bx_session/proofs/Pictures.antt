@@ -20,7 +20,7 @@ use Rattle.bx_editor.specs.Status.{input_column}
 use Rattle.bx_session.specs.declared.session.Session.TheInside.{Inside}
 use Rattle.bx_session.specs.Session.{Session, clip_after, painted_after, painting, picture_of, then_clip}
 use Rattle.bx_session.specs.Feeding.{known_if}
-use Rattle.bx_session.specs.Painting.{AppendsPainting, IsClipOf, QueuesPicture, Updates}
+use Rattle.bx_session.specs.Painting.{AppendsPainting, FitsEditor, IsClipOf, QueuesPicture, Updates}
 use Rattle.bx_session.proofs.Tops.{drawn_is, input_unseen, stands_on}
 
 either_height : (ended : Bool) (p q : PictureState) (h : ℕ) → p.height ≡ h → q.height ≡ h → (if ended then p else q).height ≡ h
@@ -47,6 +47,12 @@ picture_height d e top =
 pub picture_width : (d : Data) (e : Editor) (top : ℕ) → (picture d e top).width ≡ e.width
 picture_width d e top =
     either_width e.ended (blank_picture e.height e.width) (text_picture d e top (rows d e)) e.width refl (cursor_width (input_column d e) _)
+
+-- so a picture of an editor has the size of the one before
+pub fits_next : (known : Option PictureState) (e : Editor) (next : PictureState) → FitsEditor known e → next.height ≡ e.height → next.width ≡ e.width
+    → IfSome known (λ p. (p.height ≡ next.height) × (p.width ≡ next.width))
+fits_next None e next h high wide = tt
+fits_next (Some p) e next h high wide = (h.0 ∙ sym high, h.1 ∙ sym wide)
 
 -- the value of a session's fields
 abbrev pub value_of : {D : Type 0} → Inside D → Session

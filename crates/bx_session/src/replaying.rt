@@ -195,11 +195,17 @@ impl<D: BidiData + Drop> Session<D> {
     {
         let key = self.decode(byte);
         match self.press_completed(key) {
-            Err(Refused::Edit) => Err(Refused::Edit),
-            answer => {
+            Ok(()) => {
                 self.painting_owed = true;
-                answer
+                Ok(())
             }
+            Err(Refused::Paint) => {
+                self.painting_owed = true;
+                Err(Refused::Paint)
+            }
+            Err(Refused::Edit) => Err(Refused::Edit),
+            // never comes
+            Err(Refused::Size) => Err(Refused::Size),
         }
     }
 

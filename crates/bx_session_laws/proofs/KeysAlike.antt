@@ -39,7 +39,8 @@ use Rattle.bx_session.proofs.KeySizes.{ended_top}
 use Rattle.bx_session.specs.Parts.{is_quit}
 use Rattle.bx_session_laws.specs.Recovery.{PastesAlone}
 use Rattle.bx_session_laws.proofs.Lasting.{Lasting, Presses, RestsAlike, Serves, answer_rests, answer_rests_alone, having, lasting, own, refuses_alike, scrolls}
-use Rattle.bx_session_laws.proofs.Alike.{Alike, either_alike, going_on, idle, idle_on, pressed_alike, put_in_alike}
+use Rattle.bx_session_laws.proofs.Alike.{Alike, either_alike, going_on, idle, idle_on, put_in_alike}
+use Rattle.bx_session_laws.proofs.PressedAlike.{pressed_alike}
 use Rattle.bx_session_laws.proofs.AskedAlike.{Unsaved, name_alike, overwrite_alike, question_alike, scrolled_alike, taking_alike}
 use Rattle.bx_session_laws.proofs.PutAlike.{letter_alike, line_put_in_alike, then_alike}
 use Rattle.bx_session_laws.proofs.ReplacingAlike.{asking_alike, ends_search_alike, match_alike, replacement_alike}

@@ -10,7 +10,7 @@ use Rattle.bx_editor.specs.Editor.{Editor, cleared}
 use Rattle.bx_editor.specs.Keys.{after_key}
 use Rattle.bx_editor.specs.Putting.{paste_ended}
 use Rattle.bx_editor.specs.Replay.{after_passed_answer, after_passed_save}
-use Rattle.bx_editor.specs.Saving.{after_save, is_empty_name, is_nameless, takes_name, with_answered_name, without_answer}
+use Rattle.bx_editor.specs.Saving.{after_save, is_empty_name, is_nameless, takes_name, with_answered_name, without_answer, is_changed}
 use Rattle.bx_session.specs.Replaying.{after_passed}
 use Rattle.bx_session.proofs.Ending.{Place, same_place}
 use Rattle.bx_session_laws.specs.Recovery.{IsNamed, NamesAgree}

@@ -202,7 +202,7 @@ press_alone d fault e key None is alone = unpasted (after_user d fault e key) (u
 press_alone d fault e key (Some list) is alone =
     let here = alone (λ none. let both : Some list ≡ None = sym is ∙ none in cc both) in in_paste_alone d fault e key here.0 here.1
 
-keeps_alone : (d : Data) (fault : Option StoreFault) (e : Editor) (key : Key) → PastesAlone e → PastesAlone (after_key d fault e key)
+pub keeps_alone : (d : Data) (fault : Option StoreFault) (e : Editor) (key : Key) → PastesAlone e → PastesAlone (after_key d fault e key)
 keeps_alone d fault e key alone =
     each-key d fault e (λ k new. PastesAlone new) (λ height width. alone) (λ notice. alone) alone (start_alone e alone, unpasted (after_paste_end d e) (over d e))
     (λ k small. press_alone d fault e k e.pasted refl alone) key

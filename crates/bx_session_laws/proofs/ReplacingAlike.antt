@@ -28,7 +28,8 @@ use Rattle.bx_editor.specs.Replacing.{replacement_line, replacement_typed, shown
 use Rattle.bx_editor.specs.Search.{kept, landed, landing_from, longest_query, nothing_sought, sought, without_search}
 use Rattle.bx_editor.proofs.TwoEdits.{runs-of-two, stored-of-two}
 use Rattle.bx_session_laws.proofs.Lasting.{Lasting, Presses, lasting, having, scrolls}
-use Rattle.bx_session_laws.proofs.Alike.{Alike, Edits, either_alike, going_on, idle, pressed_alike, work}
+use Rattle.bx_session_laws.proofs.Alike.{Alike, Edits, either_alike, going_on, idle, work}
+use Rattle.bx_session_laws.proofs.PressedAlike.{pressed_alike}
 use Rattle.bx_session_laws.proofs.AskedAlike.{scrolled_alike, taking_alike}
 
 -- ---- matches give way

@@ -6,6 +6,7 @@ use Rattle.bx_keys.specs.declared.key.Key.TheVariants.{Insert, NewLine, Save}
 use Rattle.bx_store.specs.declared.store.StoreFault.{StoreFault}
 use Rattle.bx_ucd.specs.Data.{Data}
 use Rattle.bx_view.specs.declared.moves.Goal.{Goal}
+use Rattle.bx_editor.specs.Effects.{Refuses, by}
 use Rattle.bx_editor.specs.declared.answer.Answer.{Answer}
 use Rattle.bx_editor.specs.declared.answer.Answer.TheVariants.{Letter, Ends}
 use Rattle.bx_editor.specs.declared.clicks.Clicks.{Clicks}
@@ -144,7 +145,7 @@ by_user : (d : Data) (fault : Option StoreFault) (e : Editor) (key : Key) (c : �
 by_user d fault e key c prompt letter none is =
     let old = cleared e in
     any-key d fault e key none letter.told
-    ∙ ap (λ b. as_left key (if b then _ else after_any d fault (before e) e.prompt e.search_state old key)) (letter.replaces e)
+    ∙ ap (λ b. as_left key (if b then by d fault (before e) old Refuses else after_any d fault (before e) e.prompt e.search_state old key)) (letter.replaces e)
     ∙ ap (λ p. as_left key (after_any d fault (before e) p e.search_state old key)) is
 
 taken : (d : Data) (typing : Typing) (c : ℕ) (e new : Editor) → is_typed typing ≡ true → after_taking d typing c e new ≡ new
