@@ -13,7 +13,7 @@ use Rattle.bx_store.specs.declared.store.StoreFault.{StoreFault}
 use Rattle.bx_ucd.specs.Data.{Data}
 use Rattle.bx_editor.specs.Editor.{Editor, at_start, with_top}
 use Rattle.bx_editor.specs.Functions.{EditorState, HasRows}
-use Rattle.bx_editor.specs.Keys.{after_key, asks_for_whole}
+use Rattle.bx_editor.specs.Keys.{asks_for_whole}
 use Rattle.bx_editor.specs.declared.scrolling.Scroll.{Scroll}
 use Rattle.bx_session.specs.declared.status.Refused.{Refused}
 use Rattle.bx_session.specs.declared.status.Refused.TheVariants.{Edit, Paint, Size}
@@ -26,7 +26,7 @@ use Rattle.bx_editor.specs.Settings as editor_settings
 use Rattle.bx_session.specs.Feeding.{SessionState, is_idle, AfterByte, ToldBy}
 use Rattle.bx_session.specs.Painting.{AppendsPainting, FeedAppends, QueuesPicture, FeedPaints}
 use Rattle.bx_session.specs.declared.status.Status.{Status}
-use Rattle.bx_session.proofs.KeySizes.{key_goes_on, same_ended}
+use Rattle.bx_session.proofs.KeySizes.{same_ended}
 use Rattle.bx_session.proofs.Tops.{opening_stays}
 
 -- ---- opening

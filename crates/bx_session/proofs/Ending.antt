@@ -277,9 +277,11 @@ other_session d prompt search_state s key other h =
     unless_stored (stores s.editor key) (record s { editor = after_passed prompt key (paste_ended d s.editor) }) (session_after_key d None s key) h
 
 pub passed_is : {D : Type 0} (ucd : D → Data) (old new : SessionState D) (key : Key) → stores old.session.editor key ≡ true
-    → new ≡ record old { session = record old.session {
-      editor = after_passed (paste_ended (ucd old.tables) old.session.editor).prompt key (paste_ended (ucd old.tables) old.session.editor);
-    } } → new ≡ record old { session = session_replayed_on (ucd old.tables) old.session key }
+    → new ≡ record old {
+      session = record old.session {
+        editor = after_passed (paste_ended (ucd old.tables) old.session.editor).prompt key (paste_ended (ucd old.tables) old.session.editor);
+      };
+    } → new ≡ record old { session = session_replayed_on (ucd old.tables) old.session key }
 passed_is {D} ucd old new key h is =
     let e : Editor = paste_ended (ucd old.tables) old.session.editor in
     is ∙ ap (λ (s : Session). record old { session = s }) (sym (stored_session (ucd old.tables) e.prompt e.search_state old.session key h))

@@ -1,5 +1,5 @@
 -- Pictures have their editor's size, and the session after a painting, with a clip or without.
-use Rattle.std.proofs.Common.{◌≡◌, ◌⊎◌, ℕ, ◌≤◌, Bool, true, false, ◌&&◌, List, [], ◌∷◌, ◌++◌, length, drop, Option, Some, None, Ok, refl, sym, ap, subst, inl, inr}
+use Rattle.std.proofs.Common.{◌≡◌, ℕ, ◌≤◌, Bool, true, false, ◌&&◌, List, [], ◌++◌, length, drop, Option, Some, None, Ok, refl, sym, ap, subst, inl, inr}
 use Rattle.std.proofs.Common.{◌∙◌, append_assoc, arith, if◌then◌else◌}
 use Rattle.std.specs.Prelude.{IfSome}
 use Rattle.std.proofs.lemmas.List.{append-nil, drop-append-le, length-append}
@@ -7,7 +7,7 @@ use Rattle.base64.specs.Engines.{standard}
 use Rattle.base64.specs.GeneralPurpose.{decode_of}
 use Rattle.base64.specs.GeneralPurpose.{encode_of}
 use Rattle.bx_grid.specs.Tokens.{clip_bytes}
-use Rattle.bx_grid.specs.Picture.{PictureState, IsIdle, Shows}
+use Rattle.bx_grid.specs.Picture.{PictureState, Shows}
 use Rattle.bx_grid.specs.Grid.{AreWholeTokens, IsPicture}
 use Rattle.bx_grid.specs.Terminal.{Terminal, reads}
 use Rattle.bx_keys.specs.declared.key.Key.{Key}

@@ -1,6 +1,6 @@
 -- A key outside a search and a question does the same to two editors of which the same lasts; clicks, drags and the wheel where the
 -- same row is first.
-use Rattle.std.proofs.Common.{◌≡◌, ℕ, Bool, true, false, [], ◌+◌, ◌-◌, Option, Some, None, refl, sym, subst, ◌∙◌, inl, inr}
+use Rattle.std.proofs.Common.{◌≡◌, ℕ, Bool, true, false, [], ◌+◌, Option, Some, None, refl, sym, subst, ◌∙◌, inl, inr}
 use Rattle.std.proofs.Common.{if◌then◌else◌}
 use Rattle.std.specs.Prelude.{◌==◌, ◌⊎◌, min, nat_le}
 use Rattle.bx_keys.specs.declared.key.Key.{Key}

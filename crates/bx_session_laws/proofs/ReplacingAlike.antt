@@ -1,5 +1,5 @@
 -- A key in replacing does the same to two editors of which the same lasts.
-use Rattle.std.proofs.Common.{◌≡◌, ℕ, Bool, true, false, List, [], ◌∷◌, ◌+◌, length, Option, Some, None, refl, sym, ap, ap₂, subst, if◌then◌else◌}
+use Rattle.std.proofs.Common.{◌≡◌, ℕ, true, false, List, [], ◌∷◌, ◌+◌, length, Option, Some, None, refl, sym, ap, ap₂, subst}
 use Rattle.std.specs.Prelude.{◌==◌, ◌&&◌, ◌⊎◌, not}
 use Rattle.bx_keys.specs.declared.key.Key.{Key}
 use Rattle.bx_store.specs.declared.store.StoreFault.{StoreFault}

@@ -15,7 +15,6 @@ use Rattle.bx_editor.specs.Saving.{is_empty_name, with_answered_name, without_an
 use Rattle.bx_editor.specs.declared.search_state.SearchState.{SearchState}
 use Rattle.bx_editor.specs.declared.search_state.SearchState.TheVariants.{Off, Begun, Typed, WithBegun, WithTyped, Replacing}
 use Rattle.bx_editor.specs.Keys.{after_key}
-use Rattle.bx_session.specs.Beginning.{opened}
 use Rattle.bx_editor.specs.Picture.{scrolled}
 use Rattle.bx_session.specs.Session.{Session}
 use Rattle.bx_session.specs.Laws.{after_replaying}

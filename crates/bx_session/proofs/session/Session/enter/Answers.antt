@@ -1,4 +1,3 @@
-use Rattle.std.proofs.Common.{Option, Some}
 use Rattle.bx_ucd.specs.Data.{Data}
 use Rattle.bx_session.specs.Session.{StoreState, store_state}
 use Rattle.bx_session.proofs.Bytes.{entered_is, entered_store, stores_none}

@@ -1,4 +1,4 @@
-use Rattle.std.proofs.Common.{◌≡◌, ◌≤◌, ◌∙◌, ◌++◌, ℕ, List, Option, sym, ap, subst, drop, length, arith}
+use Rattle.std.proofs.Common.{◌≡◌, ◌≤◌, ◌∙◌, ◌++◌, ℕ, List, sym, ap, subst, drop, length, arith}
 use Rattle.std.proofs.lemmas.List.{length-append}
 use Rattle.bx_grid.specs.Picture.{PictureState}
 use Rattle.bx_ucd.specs.Data.{Data}
@@ -7,7 +7,7 @@ use Rattle.bx_editor.specs.Functions.{EditorState}
 use Rattle.bx_editor.specs.Picture.{top_behind}
 use Rattle.bx_session.proofs.Pictures.{IsUnseen, fits_next, picture_height, picture_width, longer_by_both, painting_is, painting_queues, painting_appends, then_clip_longer, value_of}
 use Rattle.bx_session.specs.Painting.{text_in}
-use Rattle.bx_session.specs.Session.{Session, clip_after, painted_after, painting, then_clip}
+use Rattle.bx_session.specs.Session.{Session, clip_after, painted_after, painting}
 use Rattle.bx_session.specs.Feeding.{SessionState, known_if}
 use Rattle.bx_session.proofs.session.Session.paint_after.Goals as goal
 
