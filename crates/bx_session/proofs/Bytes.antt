@@ -223,6 +223,14 @@ idle_unpainted s b idle =
     let none = idle_key s b idle in
     ap (λ owed. owed || needs_painting s.editor (key_of_byte s b)) none.1 ∙ ap (needs_painting s.editor) none.0
 
+pub not_idle : (s : Session) (b : ℕ) → is_painted s b ≡ true → is_idle s b ≡ true → ⊥
+not_idle s b painted idle = let both : false ≡ true = sym (idle_unpainted s b idle) ∙ painted in cc both
+
+-- what holds where an answer is a refusal
+pub refused_with : {A E P : Type 0} (result : Result A E) → P → OnErr result P
+refused_with (Ok value) h = tt
+refused_with (Err e) h = h
+
 pub idle_not_refused : (s : Session) (b : ℕ) → is_idle s b ≡ true → may_refuse_key s.editor (key_of_byte s b) ≡ true → ⊥
 idle_not_refused s b idle refuses = let same : false ≡ true = ap (may_refuse_key s.editor) (sym (idle_key s b idle).0) ∙ refuses in cc same
 

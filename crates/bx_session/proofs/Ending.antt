@@ -1,6 +1,6 @@
 -- A key that ends a paste: the same key after the end of the paste; and the keys that a replay passes over.
 use Rattle.std.proofs.Common.{◌≡◌, ℕ, Bool, true, false, not, ◌&&◌, ◌||◌, List, Option, Some, None, refl, sym, ap, subst, ◌∙◌, if◌then◌else◌}
-use Rattle.std.specs.Prelude.{◌≢◌, is_some, Result, Ok, Err, OnErr}
+use Rattle.std.specs.Prelude.{◌≢◌, is_some, option_map, Result, Ok, Err, OnErr}
 use Rattle.bx_keys.specs.declared.key.Key.{Key}
 use Rattle.bx_keys.specs.declared.key.Key.TheVariants.{Save, Quit}
 use Rattle.bx_store.specs.declared.store.StoreFault.{StoreFault}
@@ -233,6 +233,11 @@ pub quits_with : (d : Data) (prompt : Prompt) (search_state : SearchState) (s : 
 quits_with d prompts.Off Off s other = absurd (other (refl, refl))
 quits_with d prompts.Off search_state s other = refl
 quits_with d prompt search_state s other = refl
+
+-- what is there, in another form
+pub some_of : {A B : Type 0} (f : A → B) (o : Option A) → is_some o ≡ is_some (option_map f o)
+some_of f None = refl
+some_of f (Some x) = refl
 
 -- a key that is not Quit
 pub not_quit : (key : Key) → (key ≡ Quit → ⊥) → is_quit (Some key) ≡ false

@@ -31,10 +31,11 @@ invariant_of-self-2 g c =
 pub append_both-requires : goal.append_both-requires
 append_both-requires g c =
     let d : Data = g.D.BidiData.data c.self.inside.editor.tables in
-    let e : Editor = c.self.inside.editor.editor in
-    fits_next (known_if c.self.inside.is_known c.self.inside.painted) e c.in-Ok-picture.picture c.self.invariant.1
-    (ap (λ (p : PictureState). p.height) c.in-Ok-picture.ensures.picture ∙ picture_height d e c.in-Ok-picture.top)
-    (ap (λ (p : PictureState). p.width) c.in-Ok-picture.ensures.picture ∙ picture_width d e c.in-Ok-picture.top)
+    let e : Editor = c.self.inside.editor.editor in record {
+      fits = fits_next (known_if c.self.inside.is_known c.self.inside.painted) e c.in-Ok-picture.picture c.self.invariant.1
+          (ap (λ (p : PictureState). p.height) c.in-Ok-picture.ensures.picture ∙ picture_height d e c.in-Ok-picture.top)
+          (ap (λ (p : PictureState). p.width) c.in-Ok-picture.ensures.picture ∙ picture_width d e c.in-Ok-picture.top);
+    }
 
 pub returns-clause-ok : goal.returns-clause-ok
 returns-clause-ok g c =
