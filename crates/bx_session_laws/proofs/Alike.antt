@@ -1,52 +1,61 @@
 -- A key outside a search and a question does the same to two editors of which the same lasts: what lasts is the same again, by
 -- the same edits and steps.
-use Rattle.std.proofs.Common.{◌≡◌, ℕ, Bool, true, false, List, [], ◌∷◌, ◌+◌, ◌-◌, length, Option, Some, None, refl, sym, ap, subst, ◌∙◌, if◌then◌else◌}
-use Rattle.std.specs.Prelude.{◌==◌, encode_utf8}
-use Rattle.bx_keys.specs.declared.key.Key.{Key}
-use Rattle.bx_store.specs.declared.store.StoreFault.{StoreFault}
+use Rattle.std.proofs.Common.{◌≡◌, ℕ, Bool, true, false, List, [], ◌∷◌, ◌++◌, ◌+◌, ◌-◌, length, Option, Some, None, refl, sym, ap, ◌∙◌}
+use Rattle.std.proofs.Common.{if◌then◌else◌}
+use Rattle.std.specs.Prelude.{◌==◌, encode_utf8, replicate}
 use Rattle.bx_text.specs.declared.change.Change.{Change}
-use Rattle.bx_text.specs.Edits.{Edit, Edited, replaced, splice}
+use Rattle.bx_text.specs.Edits.{Edit, Edited, fits, replaced, splice}
 use Rattle.bx_ucd.specs.Data.{Data}
 use Rattle.bx_document.specs.History.{next_changes, stepped_times}
 use Rattle.bx_document.specs.Past.{stepped}
 use Rattle.bx_document.specs.declared.history.HistoryStep.{HistoryStep}
 use Rattle.bx_document.specs.declared.history.HistoryStep.TheVariants as history
 use Rattle.bx_editor.specs.declared.undo_groups.typing.Kind.{Kind}
-use Rattle.bx_editor.specs.declared.undo_groups.typing.Kind.TheVariants.{Separator}
+use Rattle.bx_editor.specs.declared.undo_groups.typing.Kind.TheVariants.{Blank, Separator}
 use Rattle.bx_editor.specs.declared.undo_groups.typing.Removal.{Removal}
 use Rattle.bx_editor.specs.declared.undo_groups.typing.Typing.{Typing}
 use Rattle.bx_editor.specs.undo_groups.Groups.{edited, run_end, run_start, after_insertion, after_removal, goes_on, goes_on_removing, kind_of}
 use Rattle.bx_editor.specs.declared.search_state.SearchPurpose.TheVariants as purposes
+use Rattle.bx_editor.specs.declared.message.Message.{Message}
+use Rattle.bx_editor.specs.declared.message.Message.TheVariants as messages
 use Rattle.bx_editor.specs.declared.message.Message.TheVariants.{TextFull, Copied, LineCopied, MarkOff, MarkSet, NothingToCopy, NothingToPut}
-use Rattle.bx_editor.specs.declared.search_state.SearchState.TheVariants as search_states
 use Rattle.bx_editor.specs.declared.cursor.Soft.{Soft}
 use Rattle.bx_editor.specs.declared.cursor.Soft.TheVariants as softness
+use Rattle.bx_editor.specs.Before.{before}
 use Rattle.bx_editor.specs.Editor.{Editor, after_redo, after_step, after_undo, place_after, stored_behind, with_insertion, with_removal}
 use Rattle.bx_editor.specs.Editor.{with_typing, by_group, is_changed_at, group_length}
-use Rattle.bx_editor.specs.Effects.{Effect, Types, BeginsLine, Puts, Removes, RemovesWord, Steps, StepsGroup, Goes, GoesByRows, Marks, Selects, Unmarks, Copies}
-use Rattle.bx_editor.specs.Effects.{Cuts, Seeks, SeeksNext, Saves, Quits, Turns, Helps, AsksLine, AsksName, Tells, Rests, Before, before, by}
+use Rattle.bx_editor.specs.Effects.{SeeksNext, SeeksPrevious}
+use Rattle.bx_editor.specs.Effects.{by}
 use Rattle.bx_editor.specs.Erasing.{after_erasing, after_erasing_word, after_removing, or_selection, removed_on}
-use Rattle.bx_editor.specs.Keys.{effect_of}
-use Rattle.bx_editor.specs.Putting.{after_character, after_new_line, after_put, has_room, line_end, only_paste, put_in, typed}
-use Rattle.bx_editor.specs.Putting.{with_selection_replaced, yielding}
-use Rattle.bx_editor.specs.Region.{after_copy, after_cut, after_mark, bytes_in, held_message, is_at_mark, is_empty, line, region, taken}
-use Rattle.bx_editor.specs.Region.{with_held, is_selection, selecting, unselected}
-use Rattle.bx_editor.specs.Search.{after_beginning, next_or_start, search_from, sought}
-use Rattle.bx_session.proofs.KeyKinds.{effect_kind, is_quitting, is_saving, not_quitting, not_saving}
-use Rattle.bx_session_laws.proofs.Lasting.{Lasting, Serves, lasting, having, effect_is}
+use Rattle.bx_editor.specs.Putting.{after_character, after_new_line, after_put, after_tab, as_line, has_room, new_indent, new_line_end, only_paste, put_in}
+use Rattle.bx_editor.specs.Putting.{put_line, puts_line, spaces_on, typed, units_in_line, with_line_put, with_selection_replaced, yielding}
+use Rattle.bx_editor.specs.Region.{after_copy, after_cut, after_mark, bytes_in, held_message, is_at_mark, is_empty, is_soft, line, region, taken}
+use Rattle.bx_editor.specs.Region.{with_held, is_selection, selecting, unselected, without_hard_mark, without_mark}
+use Rattle.bx_editor.specs.Search.{after_beginning, next_or_start, search_back, search_from, sought, sought_alone}
+use Rattle.bx_session_laws.proofs.Lasting.{Lasting, having, lasting}
 
 -- ---- edits and steps
 
--- what they change, and whether the session has ended
+-- what they change, whether the session has ended, and where saves go
 pub record Work : Type 0 where
   pub content : Edited
   pub undo_groups : List ℕ
   pub stored : Option ℕ
   pub changed : Bool
   pub ended : Bool
+  pub name : Option (List ℕ)
+  pub home : Bool
 
 abbrev pub work : Editor → Work
-work e = record { content = e.content; undo_groups = e.undo_groups; stored = e.stored; changed = e.changed; ended = e.ended }
+work e = record {
+  content = e.content;
+  undo_groups = e.undo_groups;
+  stored = e.stored;
+  changed = e.changed;
+  ended = e.ended;
+  name = e.name;
+  home = e.home;
+}
 
 -- an edit from one offset to another, by bytes, with the places before and after, that goes on with a run or begins one; one
 -- step, or the steps of a run
@@ -103,6 +112,16 @@ going_on typing e new f new' h = record {
   other = h.other;
 }
 
+-- no deed behind the others
+pub idle_on : (e new left f new' left' : Editor) (F : Lasting → Lasting) → lasting left ≡ F (lasting new) → lasting left' ≡ F (lasting new')
+    → work left ≡ work new → work left' ≡ work new' → Alike e new f new' → Alike e left f left'
+idle_on e new left f new' left' F one other first second h = record {
+  lasts = one ∙ ap F h.lasts ∙ sym other;
+  deeds = h.deeds;
+  first = first ∙ h.first;
+  other = second ∙ h.other;
+}
+
 -- ---- edits
 
 pub insertion_alike : (d : Data) (e f : Editor) (new : List ℕ) (goes_on : Bool)
@@ -148,22 +167,52 @@ typed_alike d typing e f new kind =
     going_on (if has_room e new then after_insertion kind else only_paste typing) e (put_in d e new (goes_on typing kind)) g
     (put_in d g new (goes_on typing kind)) (put_in_alike d e f new (goes_on typing kind))
 
-new_line_alike : (d : Data) (typing : Typing) (e f : Editor)
+pub new_line_alike : (d : Data) (typing : Typing) (e f : Editor)
     → Alike e (after_new_line d typing e) (having (lasting e) f) (after_new_line d typing (having (lasting e) f))
-new_line_alike d typing e f =
-    let part = yielding e in typed_alike d typing e f (line_end d (splice e.content.text part.0 part.1 [])) Separator
+new_line_alike d typing e f = typed_alike d typing e f (new_line_end d e ++ new_indent d e) Separator
 
-character_alike : (d : Data) (typing : Typing) (e f : Editor) (c : ℕ)
+plain_alike : (d : Data) (typing : Typing) (e f : Editor) (c : ℕ) → let g = having (lasting e) f in
+    Alike e (typed d typing e (encode_utf8 c) (kind_of (d.class c))) g (typed d typing g (encode_utf8 c) (kind_of (d.class c)))
+plain_alike d typing e f c = typed_alike d typing e f (encode_utf8 c) (kind_of (d.class c))
+
+tab_alike : (d : Data) (typing : Typing) (e f : Editor) → Alike e (after_tab d typing e) (having (lasting e) f) (after_tab d typing (having (lasting e) f))
+tab_alike d typing e f =
+    let g = having (lasting e) f in
+    let spaces = replicate (spaces_on e.tab_width (units_in_line d e (yielding e).0)) 0x20 in
+    let tab : Editor → Editor = λ x. typed d typing x (encode_utf8 0x9) (kind_of (d.class 0x9)) in
+    either_alike (e.tab_width == 0) e (tab e) (typed d typing e spaces Blank) g (tab g) (typed d typing g spaces Blank) (plain_alike d typing e f 0x9)
+    (typed_alike d typing e f spaces Blank)
+
+pub character_alike : (d : Data) (typing : Typing) (e f : Editor) (c : ℕ)
     → Alike e (after_character d typing e c) (having (lasting e) f) (after_character d typing (having (lasting e) f) c)
-character_alike d typing e f c = typed_alike d typing e f (encode_utf8 c) (kind_of (d.class c))
+character_alike d typing e f c =
+    let g = having (lasting e) f in
+    let plain : Editor → Editor = λ x. typed d typing x (encode_utf8 c) (kind_of (d.class c)) in
+    either_alike (c == 0x9) e (after_tab d typing e) (plain e) g (after_tab d typing g) (plain g) (tab_alike d typing e f) (plain_alike d typing e f c)
 
-put_alike : (d : Data) (e f : Editor) → Alike e (after_put d e) (having (lasting e) f) (after_put d (having (lasting e) f))
+line_put_alike : (d : Data) (e f : Editor) (new : List ℕ) → Alike e (with_line_put d e new) (having (lasting e) f) (with_line_put d (having (lasting e) f) new)
+line_put_alike d e f new =
+    let start = (line d e).0 in
+    let after = place_after d e (splice e.content.text start start new) (e.place + length new) in
+    record { lasts = refl; deeds = Edits start start new e.place after false ∷ []; first = refl; other = refl }
+
+put_line_alike : (d : Data) (e f : Editor) (new : List ℕ) → Alike e (put_line d e new) (having (lasting e) f) (put_line d (having (lasting e) f) new)
+put_line_alike d e f new =
+    let g = having (lasting e) f in
+    let start = (line d e).0 in
+    let full : Editor → Editor = λ x. record x { message = Some TextFull } in
+    either_alike (fits e.content.text start start new) e (with_line_put d e new) (full e) g (with_line_put d g new) (full g) (line_put_alike d e f new)
+    (idle e (full e) g (full g) refl refl refl)
+
+pub put_alike : (d : Data) (e f : Editor) → Alike e (after_put d e) (having (lasting e) f) (after_put d (having (lasting e) f))
 put_alike d e f =
     let g = having (lasting e) f in
-    let none : Editor = record e { message = Some NothingToPut } in
-    let none' : Editor = record g { message = Some NothingToPut } in
-    either_alike (length e.held == 0) e none (put_in d e e.held false) g none' (put_in d g e.held false) (idle e none g none' refl refl refl)
-    (put_in_alike d e f e.held false)
+    let none : Editor → Editor = λ x. record x { message = Some NothingToPut } in
+    let over : Editor → Editor = λ x. put_line d x (as_line d e e.held) in
+    let here : Editor → Editor = λ x. put_in d x e.held false in
+    either_alike (length e.held == 0) e (none e) (if puts_line e then over e else here e) g (none g) (if puts_line e then over g else here g)
+    (idle e (none e) g (none g) refl refl refl)
+    (either_alike (puts_line e) e (over e) (here e) g (over g) (here g) (put_line_alike d e f (as_line d e e.held)) (put_in_alike d e f e.held false))
 
 selection_alike : (d : Data) (e f other other' : Editor) → Alike e other (having (lasting e) f) other'
     → Alike e (or_selection d e other) (having (lasting e) f) (or_selection d (having (lasting e) f) other')
@@ -173,7 +222,7 @@ selection_alike d e f other other' h =
     either_alike (is_selection e) e (with_removal d e part.0 part.1 false) other g (with_removal d g part.0 part.1 false) other'
     (removal_alike d e f part.0 part.1 false) h
 
-erasing_alike : (d : Data) (typing : Typing) (how : Removal) (e f : Editor) (start stop : ℕ)
+pub erasing_alike : (d : Data) (typing : Typing) (how : Removal) (e f : Editor) (start stop : ℕ)
     → Alike e (after_erasing d typing how e start stop) (having (lasting e) f) (after_erasing d typing how (having (lasting e) f) start stop)
 erasing_alike d typing how e f start stop =
     let g = having (lasting e) f in
@@ -184,7 +233,7 @@ erasing_alike d typing how e f start stop =
     (either_alike (start == stop) e e (with_typing cut (after_removal how)) g g (with_typing cut' (after_removal how)) (idle e e g g refl refl refl)
     (going_on (after_removal how) e cut g cut' (removal_alike d e f start stop on)))
 
-word_alike : (d : Data) (e f : Editor) (start stop : ℕ)
+pub word_alike : (d : Data) (e f : Editor) (start stop : ℕ)
     → Alike e (after_erasing_word d e start stop) (having (lasting e) f) (after_erasing_word d (having (lasting e) f) start stop)
 word_alike d e f start stop =
     let g = having (lasting e) f in
@@ -202,7 +251,7 @@ redo_alike : (e f : Editor) (future : List Edit) → Alike e (after_redo e futur
 redo_alike e f [] = idle e (after_redo e []) (having (lasting e) f) (after_redo (having (lasting e) f) []) refl refl refl
 redo_alike e f (edit ∷ future) = record { lasts = refl; deeds = TakesStep history.Redo ∷ []; first = refl; other = refl }
 
-step_alike : (step : HistoryStep) (e f : Editor) → Alike e (after_step step e) (having (lasting e) f) (after_step step (having (lasting e) f))
+pub step_alike : (step : HistoryStep) (e f : Editor) → Alike e (after_step step e) (having (lasting e) f) (after_step step (having (lasting e) f))
 step_alike history.Undo e f = undo_alike e f e.content.past
 step_alike history.Redo e f = redo_alike e f e.content.future
 
@@ -212,7 +261,7 @@ run_alike step e f None = idle e (by_group step e None) (having (lasting e) f) (
 run_alike history.Undo e f (Some change) = record { lasts = refl; deeds = TakesRun history.Undo ∷ []; first = refl; other = refl }
 run_alike history.Redo e f (Some change) = record { lasts = refl; deeds = TakesRun history.Redo ∷ []; first = refl; other = refl }
 
-runs_alike : (step : HistoryStep) (e f : Editor)
+pub runs_alike : (step : HistoryStep) (e f : Editor)
     → Alike e (by_group step e (next_changes step (group_length step e) e.content)) (having (lasting e) f)
     (by_group step (having (lasting e) f) (next_changes step (group_length step (having (lasting e) f)) e.content))
 runs_alike history.Undo e f = run_alike history.Undo e f (next_changes history.Undo (group_length history.Undo e) e.content)
@@ -220,7 +269,7 @@ runs_alike history.Redo e f = run_alike history.Redo e f (next_changes history.R
 
 -- ---- the mark, and what it marks
 
-mark_alike : (e f : Editor) → Alike e (after_mark e) (having (lasting e) f) (after_mark (having (lasting e) f))
+pub mark_alike : (e f : Editor) → Alike e (after_mark e) (having (lasting e) f) (after_mark (having (lasting e) f))
 mark_alike e f =
     let g = having (lasting e) f in
     let off : Editor → Editor = λ x. record x { mark = None; soft = softness.Off; message = Some MarkOff } in
@@ -228,82 +277,72 @@ mark_alike e f =
     either_alike (is_at_mark e.mark e.place) e (off e) (set e) g (off g) (set g) (idle e (off e) g (off g) refl refl refl)
     (idle e (set e) g (set g) refl refl refl)
 
-select_alike : (e f : Editor) (mark : Option ℕ) (soft : Soft)
+pub select_alike : (e f : Editor) (mark : Option ℕ) (soft : Soft)
     → Alike e (selecting e mark soft) (having (lasting e) f) (selecting (having (lasting e) f) mark soft)
 select_alike e f None soft = record { lasts = refl; deeds = []; first = refl; other = refl }
 select_alike e f (Some mark) softness.Off = record { lasts = refl; deeds = []; first = refl; other = refl }
 select_alike e f (Some mark) softness.Fresh = record { lasts = refl; deeds = []; first = refl; other = refl }
 select_alike e f (Some mark) softness.Old = record { lasts = refl; deeds = []; first = refl; other = refl }
 
-copy_alike : (d : Data) (e f : Editor) → Alike e (after_copy d e) (having (lasting e) f) (after_copy d (having (lasting e) f))
+-- a mark that is no selection's is removed, and all else of a Copy follows
+hard_alike : (e f : Editor) → Alike e (without_hard_mark e) (having (lasting e) f) (without_hard_mark (having (lasting e) f))
+hard_alike e f =
+    let g = having (lasting e) f in
+    either_alike (is_soft e.soft) e e (without_mark e) g g (without_mark g) (idle e e g g refl refl refl)
+    (idle e (without_mark e) g (without_mark g) refl refl refl)
+
+held_alike : (e new f new' : Editor) (held : List ℕ) (whole_line : Bool) (m m' : Option Message) → Alike e new f new'
+    → Alike e (record new { held = held; whole_line = whole_line; message = m }) f (record new' { held = held; whole_line = whole_line; message = m' })
+held_alike e new f new' held whole_line m m' h =
+    idle_on e new (record new { held = held; whole_line = whole_line; message = m }) f new' (record new' { held = held; whole_line = whole_line; message = m' })
+    (λ (l : Lasting). record l { held = held; whole_line = whole_line }) refl refl refl refl h
+
+with_held_alike : (e f : Editor) (held : List ℕ) (whole_line : Bool) (own : Message)
+    → Alike e (with_held e held whole_line own) (having (lasting e) f) (with_held (having (lasting e) f) held whole_line own)
+with_held_alike e f held whole_line own =
+    let g = having (lasting e) f in
+    held_alike e (without_hard_mark e) g (without_hard_mark g) held whole_line (held_message e.clipboard held (Some own)) (held_message g.clipboard held (Some own))
+    (hard_alike e f)
+
+pub copy_alike : (d : Data) (e f : Editor) → Alike e (after_copy d e) (having (lasting e) f) (after_copy d (having (lasting e) f))
 copy_alike d e f =
     let g = having (lasting e) f in
-    let none : Editor → Editor = λ x. record x { mark = None; soft = softness.Off; message = Some NothingToCopy } in
-    let one : Editor → Editor = λ x. with_held x (bytes_in x (line d x)) LineCopied in
-    let all : Editor → Editor = λ x. with_held x (bytes_in x (region x)) Copied in
+    let none : Editor → Editor = λ x. record (without_hard_mark x) { message = Some NothingToCopy } in
+    let one : Editor → Editor = λ x. with_held x (bytes_in e (line d e)) true LineCopied in
+    let all : Editor → Editor = λ x. with_held x (bytes_in e (region e)) false Copied in
     either_alike (is_empty (region e)) e (if is_empty (line d e) then none e else one e) (all e) g (if is_empty (line d e) then none g else one g) (all g)
-    (either_alike (is_empty (line d e)) e (none e) (one e) g (none g) (one g) (idle e (none e) g (none g) refl refl refl)
-    (idle e (one e) g (one g) refl refl refl)) (idle e (all e) g (all g) refl refl refl)
+    (either_alike (is_empty (line d e)) e (none e) (one e) g (none g) (one g)
+    (idle_on e (without_hard_mark e) (none e) g (without_hard_mark g) (none g) (λ (l : Lasting). l) refl refl refl refl (hard_alike e f))
+    (with_held_alike e f (bytes_in e (line d e)) true LineCopied)) (with_held_alike e f (bytes_in e (region e)) false Copied)
 
-cut_alike : (d : Data) (e f : Editor) → Alike e (after_cut d e) (having (lasting e) f) (after_cut d (having (lasting e) f))
+pub cut_alike : (d : Data) (e f : Editor) → Alike e (after_cut d e) (having (lasting e) f) (after_cut d (having (lasting e) f))
 cut_alike d e f =
     let g = having (lasting e) f in
     let part = taken d e in
     let bytes = bytes_in e part in
-    let out = removal_alike d e f part.0 part.1 false in
-    let cut : Editor = record (with_removal d e part.0 part.1 false) { held = bytes; message = held_message e.clipboard bytes e.message } in
-    let cut' : Editor = record (with_removal d g part.0 part.1 false) { held = bytes; message = held_message g.clipboard bytes g.message } in
-    either_alike (is_empty part) e (after_copy d e) cut g (after_copy d g) cut' (copy_alike d e f)
-    (record { lasts = ap (λ (l : Lasting). record l { held = bytes }) out.lasts; deeds = out.deeds; first = out.first; other = out.other })
+    let whole = is_empty (region e) in
+    let told : Editor → Option Message = λ x. held_message x.clipboard bytes (Some messages.Cut) in
+    let cut : Editor → Editor = λ x. record (with_removal d x part.0 part.1 false) { held = bytes; whole_line = whole; message = told x } in
+    either_alike (is_empty part) e (after_copy d e) (cut e) g (after_copy d g) (cut g) (copy_alike d e f)
+    (held_alike e (with_removal d e part.0 part.1 false) g (with_removal d g part.0 part.1 false) bytes whole (told e) (told g)
+    (removal_alike d e f part.0 part.1 false))
 
-next_alike : (d : Data) (e f : Editor) → let g = having (lasting e) f in
+pub next_alike : (d : Data) (e f : Editor) → let g = having (lasting e) f in
     Alike e (by d None (before e) e SeeksNext) g (by d None (before g) g SeeksNext)
 next_alike d e f =
     let g = having (lasting e) f in
     let free = unselected e in
     let free' = unselected g in
-    let found : Editor → Editor = λ x. search_from d (next_or_start d x) (record x { search_state = search_states.Off; purpose = purposes.Find }) in
+    let found : Editor → Editor = λ x. search_from d (next_or_start d x) (sought_alone x) in
     either_alike (length (sought d free) == 0) e (after_beginning purposes.Find free) (found free) g (after_beginning purposes.Find free') (found free')
     (idle e (after_beginning purposes.Find free) g (after_beginning purposes.Find free') refl refl refl) (idle e (found free) g (found free') refl refl refl)
 
--- ---- a key outside a search
-
-by_alike : (d : Data) (fault : Option StoreFault) (was was' : Before) (e f : Editor) (effect : Effect)
-    → is_saving effect ≡ false → is_quitting effect ≡ false
-    → Alike e (by d fault was e effect) (having (lasting e) f)
-    (by d None (record was' { typing = was.typing }) (having (lasting e) f) effect)
-by_alike d fault was was' e f (Types c) s q = character_alike d was.typing e f c
-by_alike d fault was was' e f BeginsLine s q = new_line_alike d was.typing e f
-by_alike d fault was was' e f Puts s q = put_alike d e f
-by_alike d fault was was' e f (Removes how start stop) s q = erasing_alike d was.typing how e f start stop
-by_alike d fault was was' e f (RemovesWord start stop) s q = word_alike d e f start stop
-by_alike d fault was was' e f (Steps step) s q = step_alike step e f
-by_alike d fault was was' e f (StepsGroup step) s q = runs_alike step e f
-by_alike d fault was was' e f (Goes place) s q = record { lasts = refl; deeds = []; first = refl; other = refl }
-by_alike d fault was was' e f (GoesByRows way n) s q = record { lasts = refl; deeds = []; first = refl; other = refl }
-by_alike d fault was was' e f Marks s q = mark_alike e f
-by_alike d fault was was' e f Selects s q = select_alike e f e.mark e.soft
-by_alike d fault was was' e f Unmarks s q = record { lasts = refl; deeds = []; first = refl; other = refl }
-by_alike d fault was was' e f Copies s q = copy_alike d e f
-by_alike d fault was was' e f Cuts s q = cut_alike d e f
-by_alike d fault was was' e f (Seeks purpose) s q = record { lasts = refl; deeds = []; first = refl; other = refl }
-by_alike d fault was was' e f SeeksNext s q = next_alike d e f
-by_alike d fault was was' e f Saves s q = absurd (cc s)
-by_alike d fault was was' e f Quits s q = absurd (cc q)
-by_alike d fault was was' e f Turns s q = record { lasts = refl; deeds = []; first = refl; other = refl }
-by_alike d fault was was' e f Helps s q = record { lasts = refl; deeds = []; first = refl; other = refl }
-by_alike d fault was was' e f AsksLine s q = record { lasts = refl; deeds = []; first = refl; other = refl }
-by_alike d fault was was' e f AsksName s q = record { lasts = refl; deeds = []; first = refl; other = refl }
-by_alike d fault was was' e f Tells s q = record { lasts = refl; deeds = []; first = refl; other = refl }
-by_alike d fault was was' e f Rests s q = record { lasts = refl; deeds = []; first = refl; other = refl }
-
-pub pressed_alike : (d : Data) (fault : Option StoreFault) (was was' : Before) (e f : Editor) (key : Key) → Serves e f key
-    → let g = having (lasting e) f in
-    Alike e (by d fault was e (effect_of d e key)) g
-    (by d None (record was' { typing = was.typing }) g (effect_of d g key))
-pressed_alike d fault was was' e f key other =
+pub previous_alike : (d : Data) (e f : Editor) → let g = having (lasting e) f in
+    Alike e (by d None (before e) e SeeksPrevious) g (by d None (before g) g SeeksPrevious)
+previous_alike d e f =
     let g = having (lasting e) f in
-    let kind = effect_kind d e key in
-    subst (λ effect. Alike e (by d fault was e (effect_of d e key)) g
-    (by d None (record was' { typing = was.typing }) g effect)) (sym (effect_is d e f key other.1))
-    (by_alike d fault was was' e f (effect_of d e key) (kind.0 ∙ not_saving key other.0) (kind.1 ∙ not_quitting key other.0))
+    let free = unselected e in
+    let free' = unselected g in
+    let found : Editor → Editor = λ x. search_back d (sought_alone x) in
+    either_alike (length (sought d free) == 0) e (after_beginning purposes.Find free) (found free) g (after_beginning purposes.Find free') (found free')
+    (idle e (after_beginning purposes.Find free) g (after_beginning purposes.Find free') refl refl refl) (idle e (found free) g (found free') refl refl refl)

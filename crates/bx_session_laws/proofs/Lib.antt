@@ -1,7 +1,11 @@
 pub mod Lasting
 pub mod Alike
+pub mod PressedAlike
+pub mod SavedAlike
+pub mod Names
 pub mod WorkKept
 pub mod AskedAlike
+pub mod PutAlike
 pub mod ReplacingAlike
 pub mod KeysAlike
 pub mod Versions
@@ -10,6 +14,7 @@ pub mod Recovered
 pub mod TopsKept
 pub mod TopsAlike
 pub mod RecoveredParts
+pub mod ReplayTraces
 pub mod GivenBack
 pub mod PaintedAnew
 pub mod WholeLog
