@@ -2,7 +2,7 @@
 
 ghost use Rattle.std.specs.Prelude.{◌≡◌, ◌≤◌, MatchOption, None, Some, length};
 ghost use Rattle.bx_editor.specs.Functions.{has_changes};
-ghost use Rattle.bx_session.specs.Session.{after_sending, key_of_byte};
+ghost use Rattle.bx_session.specs.Session.{after_sending, is_save_byte, key_of_byte};
 ghost use Rattle.bx_session.specs.Feeding.{status_of};
 
 use crate::status::Status;
@@ -172,6 +172,16 @@ impl<D: BidiData + Drop> Session<D> {
         }
         let mut decoder = self.decoder;
         decoder.feed(byte)
+    }
+
+    /// Whether a byte would complete a key that stores the text now: a Save, or an answer. Allocates nothing.
+    pub fn stores(&self, byte: u8) -> bool
+        ensures { result ≡ is_save_byte self.now.session byte }
+    {
+        match self.key_of(byte) {
+            Some(key) => self.editor.saving_of(key).is_some(),
+            None => false,
+        }
     }
 
     /// The picture last painted; None before the first. Allocates nothing.
