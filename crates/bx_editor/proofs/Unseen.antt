@@ -105,7 +105,7 @@ module _ (d : Data) (e : Editor) (pasted : Option (List ℕ)) (quit_before : Boo
 pub letter-unseen : (d : Data) (e : Editor) (c : ℕ) → LooksAs d e (after_pasted_letter d e c)
 letter-unseen d e c = looks-same d e (pasted_with (pastes_crlf d e.content.text c) e.pasted c) false None (aged e.soft) e.typing
 
-begun-unseen : (e : Editor) (prompt : Prompt) (search_state : SearchState) (list : List ℕ) → paste_begun prompt search_state (Some list) e ≡ e
+pub begun-unseen : (e : Editor) (prompt : Prompt) (search_state : SearchState) (list : List ℕ) → paste_begun prompt search_state (Some list) e ≡ e
 begun-unseen e prompts.Off search_states.Off list = refl
 begun-unseen e prompts.Off search_states.Begun list = refl
 begun-unseen e prompts.Off search_states.Typed list = refl
@@ -132,7 +132,7 @@ none-free prompts.File search_state list = refl
 none-free prompts.Overwrite search_state list = refl
 
 -- no paste is refused while one is under way
-unrefused : (e : Editor) (list : List ℕ) → e.pasted ≡ Some list → refuses_paste e ≡ false
+pub unrefused : (e : Editor) (list : List ℕ) → e.pasted ≡ Some list → refuses_paste e ≡ false
 unrefused e list is =
     ap (λ pasted. e.read_only && is_free e.prompt e.search_state pasted) is ∙ ap (λ b. e.read_only && b) (none-free e.prompt e.search_state list)
     ∙ none (e.read_only)

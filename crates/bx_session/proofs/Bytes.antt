@@ -6,7 +6,6 @@ use Rattle.bx_common.specs.Characters.{is_side}
 use Rattle.bx_common.specs.declared.base.Base.{Base}
 use Rattle.bx_grid.specs.Picture.{PictureState, is_size}
 use Rattle.bx_keys.specs.declared.key.Key.{Key}
-use Rattle.bx_keys.specs.declared.key.Key.TheVariants.{Save}
 use Rattle.bx_keys.specs.Keys.{rest_after}
 use Rattle.bx_keys.specs.Waiting.{head_of}
 use Rattle.bx_store.specs.Faults.{with_fault}
@@ -15,17 +14,16 @@ use Rattle.bx_ucd.specs.Data.{Data}
 use Rattle.bx_editor.specs.Editor.{Editor, at_start, with_top}
 use Rattle.bx_editor.specs.Functions.{EditorState, HasRows}
 use Rattle.bx_editor.specs.Keys.{after_key, asks_for_whole}
-use Rattle.bx_editor.specs.Putting.{paste_ended}
+use Rattle.bx_editor.specs.declared.scrolling.Scroll.{Scroll}
 use Rattle.bx_session.specs.declared.status.Refused.{Refused}
 use Rattle.bx_session.specs.declared.status.Refused.TheVariants.{Edit, Paint, Size}
 use Rattle.bx_session.specs.Session.{Session, with_painting, with_painting_owed, with_picture, at_opening, before_painting, key_of_byte}
-use Rattle.bx_session.specs.Session.{after_spending, session_after_any, unpainted_after_byte, is_painted, needs_painting, painted_after}
-use Rattle.bx_session.specs.Session.{picture_of, after_byte, session_after_key, unpainted_after_told, SaveEnds, StoreState, may_refuse_key}
+use Rattle.bx_session.specs.Session.{after_spending, session_after_any, unpainted_after_byte, is_painted, needs_painting, painted_after, scroll_behind}
+use Rattle.bx_session.specs.Session.{picture_of, after_byte, session_after_key, unpainted_after_told, SaveEnds, StoreAfter, StoreState, may_refuse_key}
 use Rattle.bx_session.specs.Session.{with_text}
 use Rattle.bx_session.specs.Feeding.{SessionState, is_idle, AfterByte, ToldBy}
 use Rattle.bx_session.specs.Painting.{AppendsPainting, FeedAppends, QueuesPicture, FeedPaints}
 use Rattle.bx_session.specs.declared.status.Status.{Status}
-use Rattle.bx_session.proofs.Ending.{save_ahead}
 use Rattle.bx_session.proofs.KeySizes.{key_goes_on, same_ended}
 use Rattle.bx_session.proofs.Tops.{opening_stays}
 
@@ -88,13 +86,19 @@ opening_is {D} ucd tables text height width base e rest queue new utf8 sized is 
     ap (λ (x : D). record { tables = x; session = new.session }) (same ∙ ap (λ (x : EditorState D). x.tables) is)
     ∙ ap (λ (x : Session). record { tables = tables; session = x }) state
 
--- ---- how a Save ended
+-- ---- how a save ended
 
 pub save_ends : (result : Result (Unit {0}) StoreFault) (fault : Option StoreFault) (text : List ℕ) (old new : StoreState) → fault ≡ result_err result
     → OnOk result (new ≡ with_text text old) → OnErr result (new.contents ≡ old.contents) → IfErr result (λ e. new.faults ≡ with_fault e old.faults)
     → SaveEnds fault text old new
 save_ends (Ok done) fault text old new is ok stored failure = subst (λ (f : Option StoreFault). SaveEnds f text old new) (sym is) ok
 save_ends (Err e) fault text old new is ok stored failure = subst (λ (f : Option StoreFault). SaveEnds f text old new) (sym is) (stored, failure)
+
+-- what was stored, by another name of the same text
+pub stored_text : (saves : Bool) (fault : Option StoreFault) (text text' : List ℕ) (old new : StoreState) → (saves ≡ true → text ≡ text')
+    → StoreAfter saves fault text old new → StoreAfter saves fault text' old new
+stored_text true fault text text' old new same h = subst (λ (t : List ℕ). SaveEnds fault t old new) (same refl) h
+stored_text false fault text text' old new same h = h
 
 -- ---- a byte
 
@@ -127,17 +131,19 @@ plain_if true plain painted new is h = absurd (cc is)
 plain_if false plain painted new is h = h
 
 -- a byte after which the picture was painted
-pub after_byte_is : {D : Type 0} (ucd : D → Data) (fault : Option StoreFault) (old mid new : SessionState D) (b : ℕ) (key : Option Key)
-    → is_painted old.session b ≡ true → key ≡ key_of_byte old.session b
+pub after_byte_is : {D : Type 0} (ucd : D → Data) (fault : Option StoreFault) (old mid new : SessionState D) (b : ℕ) (scroll : Scroll) (key : Option Key)
+    → is_painted old.session b ≡ true → scroll ≡ scroll_behind old.session.editor (key_of_byte old.session b) → key ≡ key_of_byte old.session b
     → mid ≡ record old { session = unpainted_after_byte (ucd old.tables) fault old.session b }
-    → new.session ≡ painted_after (ucd mid.tables) mid.session key → new.session ≡ after_byte (ucd old.tables) fault old.session b
-after_byte_is {D} ucd fault old mid new b key prompts is e painted =
+    → new.session ≡ painted_after (ucd mid.tables) scroll mid.session key → new.session ≡ after_byte (ucd old.tables) fault old.session b
+after_byte_is {D} ucd fault old mid new b scroll key prompts asks is e painted =
     let d = ucd old.tables in
     let u = unpainted_after_byte d fault old.session b in
-    with_clip_if (is_painted old.session b) u (painted_after d u (key_of_byte old.session b)) new.session prompts
+    let way = scroll_behind old.session.editor (key_of_byte old.session b) in
+    with_clip_if (is_painted old.session b) u (painted_after d way u (key_of_byte old.session b)) new.session prompts
     (painted
-    ∙ ap (λ (x : SessionState D). painted_after (ucd x.tables) x.session key) e
-    ∙ ap (painted_after d u) is)
+    ∙ ap (λ (x : SessionState D). painted_after (ucd x.tables) scroll x.session key) e
+    ∙ ap (painted_after d scroll u) is
+    ∙ ap (λ (w : Scroll). painted_after d w u (key_of_byte old.session b)) asks)
 
 -- one that needs no painting
 pub quiet_is : {D : Type 0} (ucd : D → Data) (fault : Option StoreFault) (old new : SessionState D) (b : ℕ) → is_painted old.session b ≡ false
@@ -146,7 +152,8 @@ pub quiet_is : {D : Type 0} (ucd : D → Data) (fault : Option StoreFault) (old 
 quiet_is {D} ucd fault old new b unasked e =
     let d = ucd old.tables in
     let u = unpainted_after_byte d fault old.session b in
-    plain_if (is_painted old.session b) u (painted_after d u (key_of_byte old.session b)) new.session unasked (ap (λ (x : SessionState D). x.session) e)
+    let way = scroll_behind old.session.editor (key_of_byte old.session b) in
+    plain_if (is_painted old.session b) u (painted_after d way u (key_of_byte old.session b)) new.session unasked (ap (λ (x : SessionState D). x.session) e)
 
 pub owing_is : {D : Type 0} (ucd : D → Data) (fault : Option StoreFault) (old mid new : SessionState D) (b : ℕ) (result : Result Status Refused)
     → is_painted old.session b ≡ true → mid ≡ record old { session = unpainted_after_byte (ucd old.tables) fault old.session b }

@@ -1,63 +1,77 @@
--- A key keeps the window's size, unless it tells one, and only a Quit ends a session.
-use Rattle.std.proofs.Common.{◌≡◌, ℕ, ◌+◌, Bool, true, false, List, [], ◌∷◌, Option, Some, None, refl, sym, ap, subst, ◌∙◌, if◌then◌else◌}
-use Rattle.std.specs.Prelude.{not, ◌||◌, ◌&&◌, ◌==◌, encode_utf8, length}
+-- A key keeps the window's size, unless it tells one, and the row shown first; and only a Quit ends a session.
+use Rattle.std.proofs.Common.{◌≡◌, ℕ, ◌+◌, Bool, true, false, List, [], ◌∷◌, ◌++◌, Option, Some, None, refl, sym, ap, subst, ◌∙◌, if◌then◌else◌}
+use Rattle.std.specs.Prelude.{not, ◌||◌, ◌&&◌, ◌==◌, encode_utf8, length, min, nat_le, replicate}
 use Rattle.bx_text.specs.declared.change.Change.{Change}
-use Rattle.bx_text.specs.Edits.{Edit, fits, splice}
+use Rattle.bx_text.specs.Edits.{Edit, fits}
 use Rattle.bx_keys.specs.declared.key.Key.{Key}
 use Rattle.bx_keys.specs.declared.key.Key.TheVariants.{Quit, Size, PasteStart, PasteEnd}
 use Rattle.bx_grid.specs.Picture.{PictureState}
 use Rattle.bx_store.specs.declared.store.StoreFault.{StoreFault}
 use Rattle.bx_ucd.specs.Data.{Data}
-use Rattle.bx_editor.specs.declared.questions.answers.Prompt.{Prompt}
-use Rattle.bx_editor.specs.declared.questions.answers.Prompt.TheVariants as prompts
 use Rattle.bx_document.specs.History.{next_changes}
-use Rattle.bx_document.specs.Swapped.{behind_character, last_stop, swapped}
 use Rattle.bx_document.specs.declared.history.HistoryStep.{HistoryStep}
 use Rattle.bx_document.specs.declared.history.HistoryStep.TheVariants as history
+use Rattle.bx_view.specs.Moves.{row_home}
+use Rattle.bx_view.specs.declared.moves.Vertical.{Vertical}
+use Rattle.bx_editor.specs.declared.answer.Answer.{Answer}
+use Rattle.bx_editor.specs.declared.answer.Answer.TheVariants as answers
+use Rattle.bx_editor.specs.declared.questions.answers.Prompt.{Prompt}
+use Rattle.bx_editor.specs.declared.questions.answers.Prompt.TheVariants as prompts
 use Rattle.bx_editor.specs.declared.undo_groups.typing.Kind.{Kind}
-use Rattle.bx_editor.specs.declared.undo_groups.typing.Kind.TheVariants.{Separator}
+use Rattle.bx_editor.specs.declared.undo_groups.typing.Kind.TheVariants.{Blank, Separator}
 use Rattle.bx_editor.specs.declared.undo_groups.typing.Removal.{Removal}
 use Rattle.bx_editor.specs.declared.undo_groups.typing.Typing.{Typing}
 use Rattle.bx_editor.specs.undo_groups.Groups.{goes_on, kind_of}
-use Rattle.bx_editor.specs.declared.search_state.SearchPurpose.TheVariants.{Replace}
 use Rattle.bx_editor.specs.declared.search_state.SearchState.{SearchState}
 use Rattle.bx_editor.specs.declared.search_state.SearchState.TheVariants.{Off, Begun, Typed, WithBegun, WithTyped, Replacing}
+use Rattle.bx_editor.specs.declared.clicks.Extent.{Extent}
+use Rattle.bx_editor.specs.declared.clicks.Extent.TheVariants as extents
+use Rattle.bx_editor.specs.declared.clicks.Pressed.{Pressed}
 use Rattle.bx_editor.specs.declared.cursor.Soft.{Soft}
 use Rattle.bx_editor.specs.declared.cursor.Soft.TheVariants as softness
+use Rattle.bx_editor.specs.Answering.{answer_of, without_line}
 use Rattle.bx_editor.specs.Asking.{without_prompt}
-use Rattle.bx_editor.specs.Editor.{Editor, after_quit, after_redo, after_save, after_step, after_undo, cleared, with_exchange, by_group}
-use Rattle.bx_editor.specs.Editor.{group_length}
-use Rattle.bx_editor.specs.Effects.{Effect, Types, BeginsLine, Puts, Removes, RemovesWord, Steps, StepsGroup, Goes, GoesByRows, Marks, Selects, Unmarks, Copies}
-use Rattle.bx_editor.specs.Effects.{Cuts, Seeks, SeeksNext, Saves, Quits, Turns, Helps, AsksLine, AsksName, Tells, Rests, Before, before, by}
+use Rattle.bx_editor.specs.Before.{Before, before}
+use Rattle.bx_editor.specs.Editor.{Editor, after_quit, after_redo, after_step, after_undo, cleared, by_group, group_length, rows, text_height}
+use Rattle.bx_editor.specs.Effects.{Effect, Types, BeginsLine, Puts, Removes, RemovesWord, Steps, StepsGroup, Goes, GoesToRowEnd, GoesByRows, Clicks, Drags}
+use Rattle.bx_editor.specs.Effects.{Wheels, Marks, Selects, SelectsAll, Unmarks, Copies, Cuts, Seeks, SeeksNext, SeeksPrevious, Saves, Quits, Turns, Helps}
+use Rattle.bx_editor.specs.Effects.{AsksLine, AsksName, AsksFile, AsksOverwrite, Tells, Refuses, Rests, by}
 use Rattle.bx_editor.specs.Erasing.{after_erasing, after_erasing_word, after_removing, or_selection, removed_on}
-use Rattle.bx_editor.specs.Keys.{Answer, Letter, Shortens, GoesBack, Next, Previous, Replaces, Stays, Ends, after_any, after_asking, after_key, after_press, after_user, answer_of}
-use Rattle.bx_editor.specs.Keys.{answered, answered_match, answered_replacement, as_left, asks_for_whole, effect_of}
+use Rattle.bx_editor.specs.Keys.{after_any, after_asking, after_key, after_press, after_pressing, after_user, allowed_effect}
+use Rattle.bx_editor.specs.Keys.{answered, answered_match, answered_name, answered_overwrite, answered_question, answered_replacement, as_left, asks_for_whole}
+use Rattle.bx_editor.specs.Keys.{refuses_replacing}
 use Rattle.bx_editor.specs.Functions.{is_size_key}
-use Rattle.bx_editor.specs.Putting.{after_paste_end, after_paste_start, ended_with, paste_ended, without_paste, after_character}
-use Rattle.bx_editor.specs.Putting.{after_new_line, after_put, has_room, is_paste, line_end, put_in, typed, yielding}
-use Rattle.bx_editor.specs.Region.{after_copy, after_cut, after_mark, is_at_mark, is_empty, line, region, taken, is_selection, selecting}
-use Rattle.bx_editor.specs.Region.{unselected}
-use Rattle.bx_editor.specs.Replacing.{after_asking_replacement, after_match_letter, after_replacement_letter, after_replacing, after_replacing_all, after_sought_end, after_sought_letter}
-use Rattle.bx_editor.specs.Replacing.{asked_at, at_match, is_replacing, match_stop, matches_on, next_match, shown_at, with_matches_replaced}
-use Rattle.bx_editor.specs.Search.{after_letter, is_no_letter, landed, landing_from, sought, without_search}
+use Rattle.bx_editor.specs.LinePuts.{after_line_put, typed_in, typed_in_search}
+use Rattle.bx_editor.specs.Pointing.{after_drag, after_point, dragged_to, part_at, pointed_place, press_extent, pressed_at, pressing_with, rests_on_unit}
+use Rattle.bx_editor.specs.Pointing.{selecting_part, with_word}
+use Rattle.bx_editor.specs.Putting.{after_paste_end, after_paste_start, ended_with, paste_ended, without_paste, after_character, after_new_line, after_put}
+use Rattle.bx_editor.specs.Putting.{after_tab, as_line, has_room, is_paste, new_indent, new_line_end, put_in, put_line, puts_line, spaces_on, typed, units_in_line, yielding}
+use Rattle.bx_editor.specs.Region.{after_copy, after_cut, after_mark, is_at_mark, is_empty, is_selection, is_soft, line, region, selecting, taken, unselected}
+use Rattle.bx_editor.specs.RowMoves.{after_wheel, shows_place, wheel_top}
+use Rattle.bx_editor.specs.Saving.{after_confirming, after_deciding, after_naming, after_save, after_saving, confirms, is_changed, is_nameless, takes_name}
+use Rattle.bx_editor.specs.Search.{sought, without_search}
 use Rattle.bx_editor.proofs.EffectsKept.{IsKeptPasting, pasted-letter-keeps, start-keeps}
 use Rattle.bx_editor.proofs.InSearch.{each-key, press-keeps}
-use Rattle.bx_editor.proofs.QuestionSteps.{IsKept, question-keeps}
+use Rattle.bx_editor.proofs.LinePutsKept.{line-put-keeps}
+use Rattle.bx_editor.proofs.QuestionSteps as questions
+use Rattle.bx_editor.proofs.Saved as saved
+use Rattle.bx_editor.proofs.Searches as searches
 use Rattle.bx_session.specs.Painting.{FitsEditor}
 use Rattle.bx_session.specs.Parts.{is_quit}
-use Rattle.bx_session.proofs.KeyKinds.{effect_kind, is_quitting}
+use Rattle.bx_session.proofs.KeyKinds.{is_quitting, quit_kind}
 
 abbrev pub SameSize : Editor → Editor → Type 0
 SameSize e new = (new.height ≡ e.height) × (new.width ≡ e.width)
 
--- the size, and unless the key is Quit, whether the session has ended
+-- the size, the row shown first, and unless the key is Quit, whether the session has ended
 record Part : Type 0 where
   pub height : ℕ
   pub width : ℕ
+  pub top : ℕ
   pub ended : Bool
 
 abbrev part : Key → Editor → Part
-part key e = record { height = e.height; width = e.width; ended = is_quit (Some key) || e.ended }
+part key e = record { height = e.height; width = e.width; top = e.top; ended = is_quit (Some key) || e.ended }
 
 module _ (key : Key) where
   abbrev Keeps : Editor → Editor → Type 0
@@ -76,13 +90,25 @@ module _ (key : Key) where
   typed_kept d typing e new kind = put_in_kept d e new (goes_on typing kind)
 
   new_line_kept : (d : Data) (typing : Typing) (e : Editor) → Keeps e (after_new_line d typing e)
-  new_line_kept d typing e = let part = yielding e in typed_kept d typing e (line_end d (splice e.content.text part.0 part.1 [])) Separator
+  new_line_kept d typing e = typed_kept d typing e (new_line_end d e ++ new_indent d e) Separator
+
+  plain_kept : (d : Data) (typing : Typing) (e : Editor) (c : ℕ) → Keeps e (typed d typing e (encode_utf8 c) (kind_of (d.class c)))
+  plain_kept d typing e c = typed_kept d typing e (encode_utf8 c) (kind_of (d.class c))
+
+  tab_kept : (d : Data) (typing : Typing) (e : Editor) → Keeps e (after_tab d typing e)
+  tab_kept d typing e =
+      kept_if (e.tab_width == 0) e _ _ (plain_kept d typing e 0x9)
+      (typed_kept d typing e (replicate (spaces_on e.tab_width (units_in_line d e (yielding e).0)) 0x20) Blank)
 
   character_kept : (d : Data) (typing : Typing) (e : Editor) (c : ℕ) → Keeps e (after_character d typing e c)
-  character_kept d typing e c = typed_kept d typing e (encode_utf8 c) (kind_of (d.class c))
+  character_kept d typing e c = kept_if (c == 0x9) e _ _ (tab_kept d typing e) (plain_kept d typing e c)
+
+  put_line_kept : (d : Data) (e : Editor) (new : List ℕ) → Keeps e (put_line d e new)
+  put_line_kept d e new = kept_if (fits e.content.text (line d e).0 (line d e).0 new) e _ _ refl refl
 
   put_kept : (d : Data) (e : Editor) → Keeps e (after_put d e)
-  put_kept d e = kept_if (length e.held == 0) e _ _ refl (put_in_kept d e e.held false)
+  put_kept d e =
+      kept_if (length e.held == 0) e _ _ refl (kept_if (puts_line e) e _ _ (put_line_kept d e (as_line d e e.held)) (put_in_kept d e e.held false))
 
   selection_kept : (d : Data) (e other : Editor) → Keeps e other → Keeps e (or_selection d e other)
   selection_kept d e other h = kept_if (is_selection e) e _ _ refl h
@@ -110,6 +136,39 @@ module _ (key : Key) where
   run_kept step e None = refl
   run_kept step e (Some change) = refl
 
+  -- ---- clicks, drags and the wheel
+
+  pressing_kept : (d : Data) (e : Editor) (row column place : ℕ) (soft : Soft) → Keeps e (pressing_with d e row column place soft)
+  pressing_kept d e row column place softness.Fresh = refl
+  pressing_kept d e row column place softness.Off = refl
+  pressing_kept d e row column place softness.Old = refl
+
+  word_part_kept : (e : Editor) (place : ℕ × ℕ) → Keeps e (with_word e place)
+  word_part_kept e place = kept_if (is_empty place) e _ _ refl refl
+
+  pressed_kept : (d : Data) (e : Editor) (row column place : ℕ) (extent : Extent) → Keeps e (pressed_at d e row column place extent)
+  pressed_kept d e row column place extents.Unit = pressing_kept d e row column place e.soft
+  pressed_kept d e row column place extents.Word = word_part_kept e (part_at d e extents.Word place)
+  pressed_kept d e row column place extents.Paragraph = refl
+
+  point_kept : (d : Data) (e : Editor) (row column : ℕ) → Keeps e (after_point d e row column)
+  point_kept d e row column =
+      kept_if (nat_le row (text_height e.height)) e _ _
+      (pressed_kept d e row column (pointed_place d e row column) (press_extent e.clicks row column)) refl
+
+  dragged_kept : (e : Editor) (pressed : Pressed) (to : ℕ × ℕ) → Keeps e (dragged_to e pressed to)
+  dragged_kept e pressed to = kept_if (rests_on_unit e pressed to) e _ _ refl (kept_if (nat_le pressed.start to.0) e _ _ refl refl)
+
+  drag_kept : (d : Data) (e : Editor) (row column : ℕ) (pressed : Option Pressed) → Keeps e (after_drag d e row column pressed)
+  drag_kept d e row column None = point_kept d e row column
+  drag_kept d e row column (Some pressed) =
+      dragged_kept e pressed (part_at d e pressed.extent (pointed_place d e (min row (text_height e.height + 1)) column))
+
+  wheel_kept : (d : Data) (was : Before) (e : Editor) (way : Vertical) → Keeps e (after_wheel d was e way)
+  wheel_kept d was e way =
+      let top = wheel_top d e way in
+      kept_if (shows_place d e top) e _ _ (kept_if (top == row_home (rows d e) e.top) e _ _ refl refl) refl
+
   -- ---- the other effects
 
   select_kept : (e : Editor) (mark : Option ℕ) (soft : Soft) → Keeps e (selecting e mark soft)
@@ -120,7 +179,10 @@ module _ (key : Key) where
 
   save_kept : (e : Editor) (fault : Option StoreFault) → Keeps e (after_save e fault)
   save_kept e None = refl
-  save_kept e (Some fault) = refl
+  save_kept e (Some fault) = kept_if (is_changed fault.cause) e _ _ refl refl
+
+  saving_kept : (e : Editor) (fault : Option StoreFault) → Keeps e (after_saving fault e)
+  saving_kept e fault = kept_if (is_nameless e) e _ _ refl (save_kept e fault)
 
   either_end : (quits now was : Bool) → quits ≡ true → (quits || now) ≡ (quits || was)
   either_end true now was h = refl
@@ -134,8 +196,12 @@ module _ (key : Key) where
   mark_kept : (e : Editor) → Keeps e (after_mark e)
   mark_kept e = kept_if (is_at_mark e.mark e.place) e _ _ refl refl
 
+  held_kept : (e : Editor) → Keeps e (if is_soft e.soft then e else record e { mark = None; soft = softness.Off })
+  held_kept e = kept_if (is_soft e.soft) e _ _ refl refl
+
   copy_kept : (d : Data) (e : Editor) → Keeps e (after_copy d e)
-  copy_kept d e = kept_if (is_empty (region e)) e _ _ (kept_if (is_empty (line d e)) e _ _ refl refl) refl
+  copy_kept d e =
+      kept_if (is_empty (region e)) e _ _ (kept_if (is_empty (line d e)) e _ _ (held_kept e) (held_kept e)) (held_kept e)
 
   cut_kept : (d : Data) (e : Editor) → Keeps e (after_cut d e)
   cut_kept d e = kept_if (is_empty (taken d e)) e _ _ (copy_kept d e) refl
@@ -152,146 +218,130 @@ module _ (key : Key) where
   by_kept d fault was e (Steps step) is = step_kept step e
   by_kept d fault was e (StepsGroup step) is = run_kept step e (next_changes step (group_length step e) e.content)
   by_kept d fault was e (Goes place) is = refl
+  by_kept d fault was e (GoesToRowEnd place) is = refl
   by_kept d fault was e (GoesByRows way n) is = refl
+  by_kept d fault was e (Clicks row column) is = point_kept d e row column
+  by_kept d fault was e (Drags row column) is = drag_kept d e row column e.pressed
+  by_kept d fault was e (Wheels way) is = wheel_kept d was e way
   by_kept d fault was e Marks is = mark_kept e
   by_kept d fault was e Selects is = select_kept e e.mark e.soft
+  by_kept d fault was e SelectsAll is = refl
   by_kept d fault was e Unmarks is = refl
   by_kept d fault was e Copies is = copy_kept d e
   by_kept d fault was e Cuts is = cut_kept d e
   by_kept d fault was e (Seeks purpose) is = refl
   by_kept d fault was e SeeksNext is = kept_if (length (sought d (unselected e)) == 0) e _ _ refl refl
-  by_kept d fault was e Saves is = save_kept e fault
+  by_kept d fault was e SeeksPrevious is = kept_if (length (sought d (unselected e)) == 0) e _ _ refl refl
+  by_kept d fault was e Saves is = saving_kept e fault
   by_kept d fault was e Quits is = quit_kept e was.again (sym is)
   by_kept d fault was e Turns is = refl
   by_kept d fault was e Helps is = refl
   by_kept d fault was e AsksLine is = refl
   by_kept d fault was e AsksName is = refl
+  by_kept d fault was e AsksFile is = refl
+  by_kept d fault was e AsksOverwrite is = refl
   by_kept d fault was e Tells is = refl
+  by_kept d fault was e Refuses is = refl
   by_kept d fault was e Rests is = refl
 
-  ends : (d : Data) (fault : Option StoreFault) (was : Before) (e : Editor) → Keeps e (by d fault was e (effect_of d e key))
-  ends d fault was e = by_kept d fault was e (effect_of d e key) (effect_kind d e key).1
+  pressing : (d : Data) (fault : Option StoreFault) (was : Before) (e : Editor) → Keeps e (after_pressing d fault was e key)
+  pressing d fault was e = by_kept d fault was e (allowed_effect d e key) (quit_kind d e key)
 
-  letter_kept : (d : Data) (e : Editor) (c : ℕ) → Keeps e (after_letter d e c)
-  letter_kept d e c = kept_if (is_no_letter d c) e _ _ refl refl
-
-  exchange_kept : (d : Data) (e : Editor) (start stop : ℕ) (new : List ℕ) → Keeps e (with_exchange d e start stop new)
-  exchange_kept d e start stop new = refl
-
-  at_kept : (d : Data) (at : Option ℕ) (e new : Editor) → Keeps e new → Keeps e (at_match d new at)
-  at_kept d None e new h = h
-  at_kept d (Some at) e new h = h
-
-  replacing_kept : (d : Data) (e : Editor) → Keeps e (after_replacing d e)
-  replacing_kept d e =
-      let stop = match_stop d e in
-      let one = with_matches_replaced d e stop e.replacement 1 in
-      kept_if (fits e.content.text e.at stop e.replacement) e _ _
-      (at_kept d (next_match d one (e.at + length e.replacement)) e one (exchange_kept d e e.at stop e.replacement)) refl
-
-  all_kept : (d : Data) (e : Editor) → Keeps e (after_replacing_all d e)
-  all_kept d e =
-      let spans = matches_on d e in
-      let stop = last_stop e.at spans in
-      let new = swapped e.at e.content.text e.replacement spans in
-      kept_if (fits e.content.text e.at stop new) e _ _ (exchange_kept d e e.at stop new) refl
-
-  shown_kept : (e : Editor) (at : Option ℕ) → Keeps e (shown_at e at)
-  shown_kept e None = refl
-  shown_kept e (Some at) = refl
-
-  asked_kept : (e landed : Editor) (place : Option ℕ) → Keeps e landed → Keeps e (asked_at place landed)
-  asked_kept e landed None h = h
-  asked_kept e landed (Some place) h = h
-
-  asking_replacement_kept : (d : Data) (e : Editor) → Keeps e (after_asking_replacement d e)
-  asking_replacement_kept d e =
-      let aimed : Editor = record e { purpose = Replace } in
-      let landing = landing_from d e.place aimed in
-      kept_if (length (sought d aimed) == 0) e _ _ refl (asked_kept e (landed aimed landing) landing.place refl)
-
-  sought_end_kept : (d : Data) (typing : Typing) (e : Editor) → Keeps e (after_sought_end d typing e)
-  sought_end_kept d typing e =
-      kept_if (is_replacing e.purpose) e _ _ (kept_if (is_paste typing) e _ _ refl (asking_replacement_kept d e)) (kept_if (is_paste typing) e _ _ refl refl)
-
-  sought_letter_kept : (d : Data) (typing : Typing) (e : Editor) (c : ℕ) → Keeps e (after_sought_letter d typing e c)
-  sought_letter_kept d typing e c = kept_if (c == 0xA) e _ _ (sought_end_kept d typing e) (letter_kept d e c)
-
-  replacement_letter_kept : (d : Data) (typing : Typing) (e : Editor) (c : ℕ) → Keeps e (after_replacement_letter d typing e c)
-  replacement_letter_kept d typing e c =
-      kept_if (c == 0xA) e _ _ (kept_if (is_paste typing) e _ _ refl (shown_kept e (next_match d e e.place)))
-      (kept_if (is_no_letter d c) e _ _ refl refl)
-
-  match_letter_kept : (d : Data) (typing : Typing) (e : Editor) (c : ℕ) → Keeps e (after_match_letter d typing e c)
-  match_letter_kept d typing e c = kept_if ((c == 0xA) && not (is_paste typing)) e _ _ (replacing_kept d e) refl
-
-  answered_kept : (d : Data) (fault : Option StoreFault) (was : Before) (e : Editor) (answer : Answer)
-      → Keeps e (answered d fault was e key answer)
-  answered_kept d fault was e (Letter c) = sought_letter_kept d was.typing e c
-  answered_kept d fault was e Shortens = refl
-  answered_kept d fault was e GoesBack = refl
-  answered_kept d fault was e Next = refl
-  answered_kept d fault was e Previous = refl
-  answered_kept d fault was e Replaces = asking_replacement_kept d e
-  answered_kept d fault was e Stays = refl
-  answered_kept d fault was e Ends = ends d fault was e
-
-  -- while the replacement is asked for
-  replacement_kept : (d : Data) (fault : Option StoreFault) (was : Before) (e : Editor) (answer : Answer)
-      → Keeps e (answered_replacement d fault was e key answer)
-  replacement_kept d fault was e (Letter c) = replacement_letter_kept d was.typing e c
-  replacement_kept d fault was e Shortens = refl
-  replacement_kept d fault was e GoesBack = refl
-  replacement_kept d fault was e Next = refl
-  replacement_kept d fault was e Previous = refl
-  replacement_kept d fault was e Replaces = shown_kept e (next_match d e e.place)
-  replacement_kept d fault was e Stays = refl
-  replacement_kept d fault was e Ends = ends d fault was (without_search e)
-
-  -- while a match is shown
-  match_kept : (d : Data) (fault : Option StoreFault) (was : Before) (e : Editor) (answer : Answer)
-      → Keeps e (answered_match d fault was e key answer)
-  match_kept d fault was e (Letter c) = match_letter_kept d was.typing e c
-  match_kept d fault was e Shortens = refl
-  match_kept d fault was e GoesBack = refl
-  match_kept d fault was e Next = at_kept d (next_match d e (behind_character e.content.text e.at)) e e refl
-  match_kept d fault was e Previous = refl
-  match_kept d fault was e Replaces = all_kept d e
-  match_kept d fault was e Stays = refl
-  match_kept d fault was e Ends = ends d fault was (without_search e)
+  -- in a search
+  seeking : (d : Data) (e : Editor) → searches.IsKeptSeeking d (Keeps e)
+  seeking d e = record {
+    exchanged = λ x start stop new h. h;
+    told = λ x message h. h;
+    placed = λ x place h. h;
+    typed = λ x typing h. h;
+    sought = λ x search_state purpose origin query other at count cursor h. h;
+  }
 
   -- in a question
-  question_kept : (d : Data) (e : Editor) → IsKept d (Keeps e)
-  question_kept d e = record {
+  saving : (e : Editor) → saved.IsKeptSaving (Keeps e)
+  saving e = record {
+    stored = λ x stored changed home message h. h;
+    asked = λ x prompt answer cursor h. h;
+    named = λ x name answer h. h;
+  }
+
+  asking : (d : Data) (e : Editor) → questions.IsKept d (Keeps e)
+  asking d e = record {
     inserted = λ x new h. h;
     wrapped = λ x opener closer h. h;
     told = λ x message h. h;
     placed = λ x place h. h;
     typed = λ x typing h. h;
-    asked = λ x prompt answer h. h;
+    asked = λ x prompt answer cursor h. h;
+    unasked = λ x h. h;
+    moved = λ x text m h. h;
+    saved = λ fault x h. saved.naming-keeps (Keeps e) (saving e) fault x h;
   }
 
-  asking_kept : (d : Data) (fault : Option StoreFault) (was : Before) (e : Editor) → Keeps e (after_asking d fault was e key)
-  asking_kept d fault was e =
-      question-keeps d (Keeps e) (question_kept d e) fault was e key (answer_of key) refl
-      (ends d fault was (without_prompt e))
+  -- the held text in an input line
+  typed_by : (d : Data) (from : Editor) (prompt : Prompt) (search_state : SearchState) (e : Editor) (c : ℕ) → Keeps from e
+      → Keeps from (typed_in d prompt search_state e c)
+  typed_by d from prompts.Off search_state e c h = searches.typed-in-search d (Keeps from) (seeking d from) search_state e c h
+  typed_by d from prompts.Line search_state e c h = questions.letter-keeps d (Keeps from) (asking d from) None prompts.Line e c h
+  typed_by d from prompts.Name search_state e c h = questions.letter-keeps d (Keeps from) (asking d from) None prompts.Name e c h
+  typed_by d from prompts.Code search_state e c h = questions.letter-keeps d (Keeps from) (asking d from) None prompts.Code e c h
+  typed_by d from prompts.File search_state e c h = questions.letter-keeps d (Keeps from) (asking d from) None prompts.File e c h
+  typed_by d from prompts.Overwrite search_state e c h = questions.letter-keeps d (Keeps from) (asking d from) None prompts.Overwrite e c h
+
+  line_put_kept : (d : Data) (e : Editor) → Keeps e (after_line_put d e)
+  line_put_kept d e =
+      line-put-keeps d (Keeps e)
+      (record { cleared = λ x h. h; told = λ x h. h; typed = λ x c h. typed_by d e x.prompt x.search_state x c h }) e refl
+
+  -- by what is asked and sought
+  query_kept : (d : Data) (fault : Option StoreFault) (was : Before) (e : Editor) (one : Answer) → Keeps e (answered d fault was e key one)
+  query_kept d fault was e one =
+      searches.query-keeps d (Keeps e) (seeking d e) fault was e key one refl (λ ends. pressing d fault was (without_search e))
+      (wheel_kept d was e) (line_put_kept d e)
+
+  replacement_kept : (d : Data) (fault : Option StoreFault) (was : Before) (e : Editor) (one : Answer) → Keeps e (answered_replacement d fault was e key one)
+  replacement_kept d fault was e one =
+      searches.replacement-keeps d (Keeps e) (seeking d e) fault was e key one refl refl (λ ends. pressing d fault was (without_search e))
+      (wheel_kept d was e) (line_put_kept d e)
+
+  match_kept : (d : Data) (fault : Option StoreFault) (was : Before) (e : Editor) (one : Answer) → Keeps e (answered_match d fault was e key one)
+  match_kept d fault was e one =
+      searches.match-keeps d (Keeps e) (seeking d e) fault was e key one refl refl (λ ends. pressing d fault was (without_search e))
+      (wheel_kept d was e)
+
+  question_kept : (d : Data) (fault : Option StoreFault) (was : Before) (e : Editor) (one : Answer) → Keeps e (answered_question d fault was e key one)
+  question_kept d fault was e one =
+      questions.question-keeps d (Keeps e) (asking d e) fault was e key one refl (pressing d fault was (without_prompt e)) (wheel_kept d was e)
+      (line_put_kept d e)
+
+  name_kept : (d : Data) (fault : Option StoreFault) (was : Before) (e : Editor) (one : Answer) → Keeps e (answered_name d fault was e key one)
+  name_kept d fault was e one =
+      questions.name-keeps d (Keeps e) (asking d e) fault was e key one refl (pressing d fault was (without_prompt e)) (wheel_kept d was e)
+
+  overwrite_kept : (fault : Option StoreFault) (was : Before) (e : Editor) (one : Answer) → Keeps e (answered_overwrite fault was e one)
+  overwrite_kept fault was e (answers.Letter c) =
+      kept_if (is_paste was.typing) e _ _ refl (saved.deciding-keeps (Keeps e) (saving e) fault (without_prompt e) c refl)
+  overwrite_kept fault was e answers.Stays = refl
+  overwrite_kept fault was e one = refl
 
   any_kept : (d : Data) (fault : Option StoreFault) (was : Before) (prompt : Prompt) (search_state : SearchState) (e : Editor)
       → Keeps e (after_any d fault was prompt search_state e key)
-  any_kept d fault was prompts.Off Off e = ends d fault was e
-  any_kept d fault was prompts.Off Begun e = answered_kept d fault was e (answer_of key)
-  any_kept d fault was prompts.Off Typed e = answered_kept d fault was e (answer_of key)
+  any_kept d fault was prompts.Off Off e = pressing d fault was e
+  any_kept d fault was prompts.Off Begun e = query_kept d fault was e (answer_of key)
+  any_kept d fault was prompts.Off Typed e = query_kept d fault was e (answer_of key)
   any_kept d fault was prompts.Off WithBegun e = replacement_kept d fault was e (answer_of key)
   any_kept d fault was prompts.Off WithTyped e = replacement_kept d fault was e (answer_of key)
-  any_kept d fault was prompts.Off Replacing e = match_kept d fault was e (answer_of key)
-  any_kept d fault was prompts.Line search_state e = asking_kept d fault was e
-  any_kept d fault was prompts.Name search_state e = asking_kept d fault was e
-  any_kept d fault was prompts.Code search_state e = asking_kept d fault was e
+  any_kept d fault was prompts.Off Replacing e = match_kept d fault was e (without_line (answer_of key))
+  any_kept d fault was prompts.Line search_state e = question_kept d fault was e (answer_of key)
+  any_kept d fault was prompts.Name search_state e = name_kept d fault was e (without_line (answer_of key))
+  any_kept d fault was prompts.Code search_state e = question_kept d fault was e (answer_of key)
+  any_kept d fault was prompts.File search_state e = question_kept d fault was e (answer_of key)
+  any_kept d fault was prompts.Overwrite search_state e = overwrite_kept fault was e (answer_of key)
 
   -- ---- a paste
 
   pasting_kept : (e : Editor) → IsKeptPasting (Keeps e)
-  pasting_kept e = record { pasted = λ x pasted message typing h. h; lengthened = λ x pasted soft h. h }
+  pasting_kept e = record { pasted = λ x pasted message typing h. h; lengthened = λ x pasted soft h. h; unpressed = λ x h. h }
 
   ended_with_kept : (d : Data) (e : Editor) (pasted : Option (List ℕ)) → Keeps e (ended_with d e pasted)
   ended_with_kept d e None = refl
@@ -302,7 +352,10 @@ module _ (key : Key) where
   ended_kept d e = ended_with_kept d e e.pasted
 
   user_kept : (d : Data) (fault : Option StoreFault) (e : Editor) → Keeps e (after_user d fault e key)
-  user_kept d fault e = any_kept d fault (before e) e.prompt e.search_state (cleared e)
+  user_kept d fault e =
+      kept_if (refuses_replacing e key) e (by d fault (before e) (cleared e) Refuses)
+      (after_any d fault (before e) e.prompt e.search_state (cleared e) key) refl
+      (any_kept d fault (before e) e.prompt e.search_state (cleared e))
 
   press_kept : (d : Data) (fault : Option StoreFault) (e : Editor) → Keeps e (after_press d fault e.pasted e key)
   press_kept d fault e =
@@ -324,6 +377,7 @@ key_size : (d : Data) (fault : Option StoreFault) (e : Editor) (P : Key → Type
     → SameSize e (after_key d fault e key)
 key_size d fault e P none =
     each-key d fault e (λ k new. P k → SameSize e new) (λ height width told. absurd (none height width told)) (λ notice told. (refl, refl))
+    (λ told. (refl, refl))
     (λ told. same_size PasteStart e (after_paste_start e) (start_kept PasteStart e), λ told. same_size PasteEnd e (after_paste_end d e) (end_kept PasteEnd d e))
     (λ k other told. same_size k e (after_press d fault e.pasted e k) (press_kept k d fault e))
 
@@ -340,6 +394,17 @@ pub still_fits : (d : Data) (fault : Option StoreFault) (painted : Option Pictur
 still_fits d fault painted e new key told is was =
     fits_still painted e new (subst (SameSize e) (sym is) (key_size d fault e (λ k. asks_for_whole k ≡ false) (λ height width sized. cc sized) key told)) was
 
+-- ---- the row shown first, which only a painting moves
+
+pub key_top : (d : Data) (fault : Option StoreFault) (e : Editor) (key : Key) → (after_key d fault e key).top ≡ e.top
+key_top d fault e =
+    each-key d fault e (λ k new. new.top ≡ e.top) (λ height width. refl) (λ notice. refl) refl
+    (ap (λ (p : Part). p.top) (start_kept PasteStart e), ap (λ (p : Part). p.top) (end_kept PasteEnd d e))
+    (λ k other. ap (λ (p : Part). p.top) (press_kept k d fault e))
+
+pub ended_top : (d : Data) (e : Editor) → (paste_ended d e).top ≡ e.top
+ended_top d e = ap (λ (p : Part). p.top) (ended_kept PasteEnd d e)
+
 -- ---- only a Quit ends a session
 
 unless_quit : (quits now was : Bool) → quits ≡ false → (quits || now) ≡ (quits || was) → now ≡ was
@@ -348,7 +413,7 @@ unless_quit false now was other h = h
 
 pub key_goes_on : (d : Data) (fault : Option StoreFault) (e : Editor) (key : Key) → is_quit (Some key) ≡ false → (after_key d fault e key).ended ≡ e.ended
 key_goes_on d fault e =
-    each-key d fault e (λ k new. is_quit (Some k) ≡ false → new.ended ≡ e.ended) (λ height width on. refl) (λ notice on. refl)
+    each-key d fault e (λ k new. is_quit (Some k) ≡ false → new.ended ≡ e.ended) (λ height width on. refl) (λ notice on. refl) (λ on. refl)
     (λ on. ap (λ (p : Part). p.ended) (start_kept PasteStart e), λ on. ap (λ (p : Part). p.ended) (end_kept PasteEnd d e))
     (λ k other on. unless_quit (is_quit (Some k)) _ e.ended on (ap (λ (p : Part). p.ended) (press_kept k d fault e)))
 
@@ -357,17 +422,19 @@ pub ended_goes_on : (d : Data) (e : Editor) → ((paste_ended d e).ended ≡ e.e
 ended_goes_on d e =
     let kept = ended_kept PasteEnd d e in (ap (λ (p : Part). p.ended) kept, same_size PasteEnd e (paste_ended d e) kept)
 
--- what a Quit does does not depend on a Save
+-- what a Quit does does not depend on a save
 quit_alike : (d : Data) (fault : Option StoreFault) (was : Before) (prompt : Prompt) (search_state : SearchState) (e : Editor)
     → after_any d fault was prompt search_state e Quit ≡ after_any d None was prompt search_state e Quit
 quit_alike d fault was prompts.Off Off e = refl
 quit_alike d fault was prompts.Off search_state e = refl
 quit_alike d fault was prompt search_state e = refl
 
+quit_user_alike : (d : Data) (fault : Option StoreFault) (e : Editor) → after_user d fault e Quit ≡ after_user d None e Quit
+quit_user_alike d fault e = ap (as_left Quit) (quit_alike d fault (before e) e.prompt e.search_state (cleared e))
+
 quit_pressed : (d : Data) (fault : Option StoreFault) (e : Editor) (pasted : Option (List ℕ)) → after_press d fault pasted e Quit ≡ after_press d None pasted e Quit
-quit_pressed d fault e None = ap (as_left Quit) (quit_alike d fault (before e) e.prompt e.search_state (cleared e))
-quit_pressed d fault e (Some list) =
-    let x : Editor = paste_ended d e in ap (as_left Quit) (quit_alike d fault (before x) x.prompt x.search_state (cleared x))
+quit_pressed d fault e None = quit_user_alike d fault e
+quit_pressed d fault e (Some list) = quit_user_alike d fault (paste_ended d e)
 
 -- nor does whether any key ends the session
 pub same_ended : (d : Data) (fault : Option StoreFault) (e : Editor) (key : Key) → (after_key d fault e key).ended ≡ (after_key d None e key).ended

@@ -8,12 +8,13 @@ use Rattle.bx_store.specs.declared.store.StoreFault.{StoreFault}
 use Rattle.bx_ucd.specs.Data.{Data}
 use Rattle.bx_editor.specs.Editor.{Editor, with_top}
 use Rattle.bx_editor.specs.Keys.{after_key}
-use Rattle.bx_editor.specs.Picture.{next_top}
+use Rattle.bx_editor.specs.declared.scrolling.Scroll.{Scroll}
+use Rattle.bx_editor.specs.Picture.{top_behind}
 use Rattle.bx_session.specs.declared.status.Refused.{Refused}
 use Rattle.bx_session.specs.declared.status.Refused.TheVariants as refused
 use Rattle.bx_session.specs.declared.status.Status.{Status}
 use Rattle.bx_session.specs.Feeding.{AfterByte}
-use Rattle.bx_session.specs.Session.{Session, after_spending, is_painted, key_of_byte, painted_after, session_after_any}
+use Rattle.bx_session.specs.Session.{Session, after_spending, is_painted, key_of_byte, painted_after, scroll_behind, session_after_any}
 
 abbrev pub editor_after : Data → Option StoreFault → Editor → Option Key → Editor
 editor_after d fault e None = e
@@ -43,13 +44,13 @@ unpainted_at false d fault s key rest e =
 own_top : (e new : Editor) → new ≡ e → new ≡ with_top e new.top
 own_top e new is = is ∙ ap (λ (x : Editor). with_top e x.top) (sym is)
 
-painted_at : (paints : Bool) (d : Data) (fault : Option StoreFault) (old new : Session) (key ends : Option Key) (rest : List ℕ)
-    → LeavesUnpainted d fault old ends rest new → Leaves d fault old ends rest (if paints then painted_after d new key else new)
-painted_at true d fault old new key ends rest h = record {
-  editor = ap (λ (e : Editor). with_top e (next_top d new.editor new.editor.top)) h.editor;
+painted_at : (paints : Bool) (d : Data) (fault : Option StoreFault) (scroll : Scroll) (old new : Session) (key ends : Option Key) (rest : List ℕ)
+    → LeavesUnpainted d fault old ends rest new → Leaves d fault old ends rest (if paints then painted_after d scroll new key else new)
+painted_at true d fault scroll old new key ends rest h = record {
+  editor = ap (λ (e : Editor). with_top e (top_behind d new.editor new.editor.top scroll)) h.editor;
   rest_is = h.rest_is;
 }
-painted_at false d fault old new key ends rest h = record {
+painted_at false d fault scroll old new key ends rest h = record {
   editor = own_top (editor_after d fault old.editor ends) new.editor h.editor;
   rest_is = h.rest_is;
 }
@@ -59,7 +60,7 @@ pub byte_leaves : (d : Data) (fault : Option StoreFault) (s : Session) (b : ℕ)
     → Leaves d fault s (key_after s.rest b) (head_of (rest_after s.rest b)) new
 byte_leaves d fault s b (Ok status) new runs some h =
     subst (Leaves d fault s (key_after s.rest b) (head_of (rest_after s.rest b))) (sym h.0)
-    (painted_at (is_painted s b) d fault s (session_after_any d fault (after_spending s b) (key_of_byte s b)) (key_of_byte s b) (key_after s.rest b)
+    (painted_at (is_painted s b) d fault (scroll_behind s.editor (key_of_byte s b)) s (session_after_any d fault (after_spending s b) (key_of_byte s b)) (key_of_byte s b) (key_after s.rest b)
     (head_of (rest_after s.rest b)) (unpainted_at s.editor.ended d fault s (key_after s.rest b) (head_of (rest_after s.rest b)) runs))
 byte_leaves d fault s b (Err refused.Edit) new runs some h = absurd (some refl)
 byte_leaves d fault s b (Err refused.Paint) new runs some h =

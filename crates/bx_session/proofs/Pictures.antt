@@ -14,12 +14,14 @@ use Rattle.bx_keys.specs.declared.key.Key.{Key}
 use Rattle.bx_ucd.specs.Data.{Data}
 use Rattle.bx_editor.specs.Region.{is_clip}
 use Rattle.bx_editor.specs.Editor.{Editor, rows, with_top}
-use Rattle.bx_editor.specs.Picture.{StandsOnItsCell, picture, next_top, blank_picture, text_picture}
+use Rattle.bx_editor.specs.declared.scrolling.Scroll.{Scroll}
+use Rattle.bx_editor.specs.Picture.{StandsOnItsCell, picture, blank_picture, text_picture, top_behind, with_cursor}
+use Rattle.bx_editor.specs.Status.{input_column}
 use Rattle.bx_session.specs.declared.session.Session.TheInside.{Inside}
 use Rattle.bx_session.specs.Session.{Session, clip_after, painted_after, painting, picture_of, then_clip}
 use Rattle.bx_session.specs.Feeding.{known_if}
 use Rattle.bx_session.specs.Painting.{AppendsPainting, IsClipOf, QueuesPicture, Updates}
-use Rattle.bx_session.proofs.Tops.{drawn_is, stands_on}
+use Rattle.bx_session.proofs.Tops.{drawn_is, input_unseen, stands_on}
 
 either_height : (ended : Bool) (p q : PictureState) (h : ℕ) → p.height ≡ h → q.height ≡ h → (if ended then p else q).height ≡ h
 either_height true p q h e f = e
@@ -29,11 +31,22 @@ either_width : (ended : Bool) (p q : PictureState) (w : ℕ) → p.width ≡ w �
 either_width true p q w e f = e
 either_width false p q w e f = f
 
+-- a cursor in the status row leaves the size
+cursor_height : (column : Option ℕ) (p : PictureState) → (with_cursor column p).height ≡ p.height
+cursor_height None p = refl
+cursor_height (Some column) p = refl
+
+cursor_width : (column : Option ℕ) (p : PictureState) → (with_cursor column p).width ≡ p.width
+cursor_width None p = refl
+cursor_width (Some column) p = refl
+
 pub picture_height : (d : Data) (e : Editor) (top : ℕ) → (picture d e top).height ≡ e.height
-picture_height d e top = either_height e.ended (blank_picture e.height e.width) (text_picture d e top (rows d e)) e.height refl refl
+picture_height d e top =
+    either_height e.ended (blank_picture e.height e.width) (text_picture d e top (rows d e)) e.height refl (cursor_height (input_column d e) _)
 
 pub picture_width : (d : Data) (e : Editor) (top : ℕ) → (picture d e top).width ≡ e.width
-picture_width d e top = either_width e.ended (blank_picture e.height e.width) (text_picture d e top (rows d e)) e.width refl refl
+picture_width d e top =
+    either_width e.ended (blank_picture e.height e.width) (text_picture d e top (rows d e)) e.width refl (cursor_width (input_column d e) _)
 
 -- the value of a session's fields
 abbrev pub value_of : {D : Type 0} → Inside D → Session
@@ -103,8 +116,9 @@ module _ (d : Data) (s : Session) (e : Editor) (top : ℕ) (p : PictureState) (c
   drawn : p ≡ picture_of d e
   drawn = drawn_is d s.editor e top p same is
 
-  pub painting_is : (key : Option Key) → top ≡ next_top d s.editor s.editor.top → clip ≡ clip_after s.editor key → new ≡ painted_after d s key
-  painting_is key follows clips =
+  pub painting_is : (scroll : Scroll) (key : Option Key) → top ≡ top_behind d s.editor s.editor.top scroll → clip ≡ clip_after s.editor key
+      → new ≡ painted_after d scroll s key
+  painting_is scroll key follows clips =
       let f : Editor → PictureState → List ℕ → Session =
       λ x q xs. record s { editor = x; painted = Some q; known = Some q; painting_owed = false; pending = xs } in
       let all : Editor → PictureState → Session = λ x q. f x q (then_clip (s.pending ++ painting s.known q) (clip_after s.editor key)) in
@@ -112,13 +126,15 @@ module _ (d : Data) (s : Session) (e : Editor) (top : ℕ) (p : PictureState) (c
       ∙ ap (all e) drawn
       ∙ ap (λ (x : Editor). all x (picture_of d x)) (same ∙ ap (with_top s.editor) follows)
 
-  stands_at : (s.editor.ended ≡ false → StandsOnItsCell d s.editor top p) → e.ended ≡ false → StandsOnItsCell d e e.top (picture_of d e)
+  stands_at : (s.editor.ended ≡ false → input_column d s.editor ≡ None → StandsOnItsCell d s.editor top p) → e.ended ≡ false
+      → input_column d e ≡ None → StandsOnItsCell d e e.top (picture_of d e)
   stands_at stands =
-      subst (λ (x : Editor). x.ended ≡ false → StandsOnItsCell d x x.top (picture_of d e)) (sym same)
-      (λ on. subst (λ (q : PictureState). StandsOnItsCell d (with_top s.editor top) top q) drawn (stands_on d s.editor top p (stands on)))
+      subst (λ (x : Editor). x.ended ≡ false → input_column d x ≡ None → StandsOnItsCell d x x.top (picture_of d e)) (sym same)
+      (λ on away. subst (λ (q : PictureState). StandsOnItsCell d (with_top s.editor top) top q) drawn
+      (stands_on d s.editor top p (stands on (sym (input_unseen d s.editor top s.editor.clipboard) ∙ away))))
 
   pub painting_queues : AreWholeTokens (painting s.known p) → Updates s.known (painting s.known p) p → IsPicture p
-      → (s.editor.ended ≡ false → StandsOnItsCell d s.editor top p) → IsUnseen clip → QueuesPicture d s.pending s.known new
+      → (s.editor.ended ≡ false → input_column d s.editor ≡ None → StandsOnItsCell d s.editor top p) → IsUnseen clip → QueuesPicture d s.pending s.known new
   painting_queues tokens updates sized stands unseen = (
     then_clip (painting s.known p) clip,
     record {

@@ -8,24 +8,24 @@ use Rattle.bx_keys.specs.Waiting.{head_of}
 use Rattle.bx_grid.specs.Picture.{PictureState}
 use Rattle.bx_store.specs.declared.store.StoreFault.{StoreFault}
 use Rattle.bx_ucd.specs.Data.{Data}
-use Rattle.bx_editor.specs.declared.questions.answers.Prompt.{Prompt}
-use Rattle.bx_editor.specs.declared.questions.answers.Prompt.TheVariants as prompts
-use Rattle.bx_editor.specs.declared.search_state.SearchState.{SearchState}
-use Rattle.bx_editor.specs.declared.search_state.SearchState.TheVariants as search_states
-use Rattle.bx_editor.specs.Editor.{Editor, with_typing}
-use Rattle.bx_editor.specs.Keys.{after_key, after_press, asks_for_whole, needs_no_painting}
-use Rattle.bx_editor.specs.Putting.{after_paste_start, after_pasted_letter, paste_begun}
-use Rattle.bx_editor.specs.Picture.{StandsOnItsCell, picture}
-use Rattle.bx_editor.specs.PasteLaws.{LooksAs}
-use Rattle.bx_editor.proofs.Unseen.{letter-unseen, start-unseen}
+use Rattle.bx_editor.specs.Editor.{Editor, unpressed, with_typing}
+use Rattle.bx_editor.specs.declared.message.Message.TheVariants.{ViewOnly}
 use Rattle.bx_editor.specs.declared.undo_groups.typing.Typing.TheVariants.{Paste}
+use Rattle.bx_editor.specs.Region.{aged}
+use Rattle.bx_editor.specs.Status.{input_column}
+use Rattle.bx_editor.specs.Keys.{after_key, after_press, asks_for_whole, needs_no_painting}
+use Rattle.bx_editor.specs.Putting.{after_paste_start, after_pasted_letter, paste_begun, pasted_with, pastes_crlf}
+use Rattle.bx_editor.specs.Picture.{StandsOnItsCell, picture}
+use Rattle.bx_editor.proofs.Unseen.{begun-unseen, letter-unseen, start-unseen, unrefused}
 use Rattle.bx_session.specs.Painting.{ShowsState}
+use Rattle.bx_session.proofs.Tops.{column_same}
 use Rattle.bx_session.specs.Session.{Session, after_spending, key_of_byte, needs_painting, picture_of, session_after_any}
 
 -- what such a key leaves
 pub record IsQuiet (d : Data) (e new : Editor) : Type 0 where
   pub looks : picture_of d new ≡ picture_of d e
   pub stands : StandsOnItsCell d e e.top (picture_of d e) → StandsOnItsCell d new new.top (picture_of d new)
+  pub column : input_column d new ≡ input_column d e
   pub ended : new.ended ≡ e.ended
   pub height : new.height ≡ e.height
   pub width : new.width ≡ e.width
@@ -36,40 +36,35 @@ letter_quiet d e c =
       looks = same;
       stands = λ h. subst (λ (p : PictureState). StandsOnItsCell d (after_pasted_letter d e c) e.top p) (sym same)
           (record { place = h.place; slot = h.slot; cell = h.cell; shown = h.shown; row = h.row; column = h.column });
+      column = column_same d e e.top e.clipboard (pasted_with (pastes_crlf d e.content.text c) e.pasted c) false None (aged e.soft) e.typing None None;
       ended = refl;
       height = refl;
       width = refl;
     }
 
-begun_is : (e : Editor) (prompt : Prompt) (search_state : SearchState) (list : List ℕ) → paste_begun prompt search_state (Some list) e ≡ e
-begun_is e prompts.Off search_states.Off list = refl
-begun_is e prompts.Off search_states.Begun list = refl
-begun_is e prompts.Off search_states.Typed list = refl
-begun_is e prompts.Off search_states.WithBegun list = refl
-begun_is e prompts.Off search_states.WithTyped list = refl
-begun_is e prompts.Off search_states.Replacing list = refl
-begun_is e prompts.Line search_state list = refl
-begun_is e prompts.Name search_state list = refl
-begun_is e prompts.Code search_state list = refl
+start_is : (e : Editor) (list : List ℕ) → e.pasted ≡ Some list → after_paste_start e ≡ unpressed (with_typing e Paste)
+start_is e list is =
+    ap (λ refused. if refused then unpressed (record e { message = Some ViewOnly }) else unpressed (with_typing (paste_begun e.prompt e.search_state e.pasted e) Paste))
+    (unrefused e list is)
+    ∙ ap (λ (x : Editor). unpressed (with_typing x Paste))
+    (ap (λ pasted. paste_begun e.prompt e.search_state pasted e) is ∙ begun-unseen e e.prompt e.search_state list)
 
-start_is : (e : Editor) (pasted : Option (List ℕ)) → e.pasted ≡ pasted → is_some pasted ≡ true → after_paste_start e ≡ with_typing e Paste
-start_is e None is some = absurd (cc some)
-start_is e (Some list) is some =
-    ap (λ (x : Editor). with_typing x Paste) (ap (λ pasted. paste_begun e.prompt e.search_state pasted e) is ∙ begun_is e e.prompt e.search_state list)
-
-start_quiet : (d : Data) (e : Editor) → is_some e.pasted ≡ true → IsQuiet d e (after_paste_start e)
-start_quiet d e some =
-    let is = start_is e e.pasted refl some in
-    let same : picture d (with_typing e Paste) e.top ≡ picture d e e.top =
-    ap (λ (x : Editor). picture d x e.top) (sym is) ∙ (start-unseen d e e.pasted refl some).same e.top in
-    let typed : IsQuiet d e (with_typing e Paste) = record {
+start_quiet : (d : Data) (e : Editor) (pasted : Option (List ℕ)) → e.pasted ≡ pasted → is_some pasted ≡ true → IsQuiet d e (after_paste_start e)
+start_quiet d e None is some = absurd (cc some)
+start_quiet d e (Some list) is some =
+    let own = start_is e list is in
+    let new : Editor = unpressed (with_typing e Paste) in
+    let same : picture d new e.top ≡ picture d e e.top =
+    ap (λ (x : Editor). picture d x e.top) (sym own) ∙ (start-unseen d e e.pasted refl (ap (λ (p : Option (List ℕ)). is_some p) is ∙ some)).same e.top in
+    let typed : IsQuiet d e new = record {
       looks = same;
-      stands = λ h. subst (λ (p : PictureState). StandsOnItsCell d (with_typing e Paste) e.top p) (sym same)
+      stands = λ h. subst (λ (p : PictureState). StandsOnItsCell d new e.top p) (sym same)
           (record { place = h.place; slot = h.slot; cell = h.cell; shown = h.shown; row = h.row; column = h.column });
+      column = column_same d e e.top e.clipboard e.pasted e.quit_before e.goal e.soft Paste None None;
       ended = refl;
       height = refl;
       width = refl;
-    } in subst (IsQuiet d e) (sym is) typed
+    } in subst (IsQuiet d e) (sym own) typed
 
 by_press : (d : Data) (fault : Option StoreFault) (e : Editor) (pasted : Option (List ℕ)) (c : ℕ) → is_some pasted ≡ true
     → after_press d fault pasted e (Insert c) ≡ after_pasted_letter d e c
@@ -85,7 +80,7 @@ pub quiet_key : (d : Data) (fault : Option StoreFault) (e : Editor) (key : Key) 
     → IsQuiet d e (after_key d fault e key) × (asks_for_whole key ≡ false)
 quiet_key d fault e (Insert c) h =
     (subst (IsQuiet d e) (sym (by_press d fault e e.pasted c (both (is_some e.pasted) true h).0)) (letter_quiet d e c), refl)
-quiet_key d fault e PasteStart h = (start_quiet d e (both (is_some e.pasted) true h).0, refl)
+quiet_key d fault e PasteStart h = (start_quiet d e e.pasted refl (both (is_some e.pasted) true h).0, refl)
 quiet_key d fault e key h = absurd (cc ((both (is_some e.pasted) false h).1))
 
 -- ---- a session
@@ -99,7 +94,7 @@ pub record StaysQuiet (d : Data) (s new : Session) : Type 0 where
   pub owed : new.painting_owed ≡ s.painting_owed
 
 same_quiet : (d : Data) (e : Editor) → IsQuiet d e e
-same_quiet d e = record { looks = refl; stands = λ h. h; ended = refl; height = refl; width = refl }
+same_quiet d e = record { looks = refl; stands = λ h. h; column = refl; ended = refl; height = refl; width = refl }
 
 stays : (d : Data) (s new : Session) → new.editor ≡ s.editor → new.painted ≡ s.painted → new.known ≡ s.known → new.pending ≡ s.pending
     → new.painting_owed ≡ s.painting_owed → StaysQuiet d s new

@@ -1,5 +1,5 @@
 -- The row that is shown first is not seen by itself, nor is a clipboard; and a text is opened with its first row first.
-use Rattle.std.proofs.Common.{◌≡◌, ℕ, ◌-◌, ◌<◌, ◌≤◌, Bool, true, false, List, [], ◌++◌, length, map, get_or, IsUtf8, refl, sym, ap, ap₂, ◌∙◌, nat_le, leb-true, arith, if◌then◌else◌}
+use Rattle.std.proofs.Common.{◌≡◌, ℕ, ◌-◌, ◌<◌, ◌≤◌, Bool, true, false, List, [], ◌++◌, length, map, get_or, IsUtf8, Option, Some, None, refl, sym, ap, ap₂, ◌∙◌, nat_le, leb-true, arith, if◌then◌else◌}
 use Rattle.std.specs.Prelude.{◌&&◌}
 use Rattle.std.proofs.lemmas.List.{get_or-map, length-map}
 use Rattle.bx_common.specs.Characters.{is_side, largest_side}
@@ -16,57 +16,112 @@ use Rattle.bx_editor.specs.declared.questions.answers.Prompt.{Prompt}
 use Rattle.bx_editor.specs.declared.questions.answers.Prompt.TheVariants as prompts
 use Rattle.bx_editor.specs.declared.search_state.SearchState.{SearchState}
 use Rattle.bx_editor.specs.declared.search_state.SearchState.TheVariants as search_states
+use Rattle.bx_editor.specs.declared.clicks.Clicks.{Clicks}
+use Rattle.bx_editor.specs.declared.clicks.Pressed.{Pressed}
+use Rattle.bx_editor.specs.declared.cursor.Soft.{Soft}
+use Rattle.bx_editor.specs.declared.undo_groups.typing.Typing.{Typing}
+use Rattle.bx_view.specs.declared.moves.Goal.{Goal}
 use Rattle.bx_editor.specs.Editor.{Editor, at_start, rows, text_height, with_top}
 use Rattle.bx_editor.specs.Functions.{HasRows}
-use Rattle.bx_editor.specs.Picture.{StandsOnItsCell, blank_picture, next_top, picture, region_rows}
-use Rattle.bx_editor.specs.Replacing.{seen_in}
-use Rattle.bx_editor.specs.Status.{glyph_row, letter_glyphs, prompt_glyphs, status_text}
+use Rattle.bx_document.specs.StatusRow.{with_some_end}
+use Rattle.bx_editor.specs.InputLines.{input_line_of}
+use Rattle.bx_editor.specs.Picture.{StandsOnItsCell, blank_picture, next_top, picture, region_rows, with_cursor}
+use Rattle.bx_editor.specs.Replacing.{found_here, match_or_region, seen_in}
+use Rattle.bx_editor.specs.Status.{glyph_row, input_column, is_rtl, letter_glyphs, name_end, prompt_words, status_text, typed_column, typed_glyphs}
 use Rattle.bx_session.specs.Session.{picture_of}
 
 -- ---- the picture
 
-module _ (d : Data) (e : Editor) (shown : ℕ) (clipboard : Bool) where
+module _ (d : Data) (e : Editor) (shown : ℕ) (clipboard : Bool) (pasted : Option (List ℕ)) (quit_before : Bool) (goal : Option Goal) (soft : Soft)
+    (typing : Typing) (clicks : Option Clicks) (pressed : Option Pressed) where
   abbrev new : Editor
-  new = record e { top = shown; clipboard = clipboard }
+  new = record e {
+    top = shown;
+    clipboard = clipboard;
+    pasted = pasted;
+    quit_before = quit_before;
+    goal = goal;
+    soft = soft;
+    typing = typing;
+    clicks = clicks;
+    pressed = pressed;
+  }
+
+  same-found : (at : Option ℕ) → match_or_region d new at ≡ match_or_region d e at
+  same-found None = refl
+  same-found (Some at) = refl
 
   same-part : (search_state : SearchState) → seen_in d new search_state ≡ seen_in d e search_state
   same-part search_states.Off = refl
   same-part search_states.Begun = refl
-  same-part search_states.Typed = refl
-  same-part search_states.WithBegun = refl
-  same-part search_states.WithTyped = refl
+  same-part search_states.Typed = same-found (found_here d e)
+  same-part search_states.WithBegun = same-found (found_here d e)
+  same-part search_states.WithTyped = same-found (found_here d e)
   same-part search_states.Replacing = refl
 
-  same-prompt : (prompt : Prompt) → prompt_glyphs d new prompt ≡ prompt_glyphs d e prompt
-  same-prompt prompts.Off = refl
-  same-prompt prompts.Line = refl
-  same-prompt prompts.Name = refl
-  same-prompt prompts.Code = refl
+  same-words : (prompt : Prompt) → prompt_words new prompt ≡ prompt_words e prompt
+  same-words prompts.Off = refl
+  same-words prompts.Line = refl
+  same-words prompts.Name = refl
+  same-words prompts.Code = refl
+  same-words prompts.File = refl
+  same-words prompts.Overwrite = refl
 
-  -- the picture with this part of the text in the other rendition, and this prompt
-  abbrev with_parts : ℕ → ℕ × ℕ → List Glyph → PictureState
-  with_parts top part glyphs =
+  same-typed : (text : List ℕ) (line : Option (List ℕ)) → typed_glyphs d new text line ≡ typed_glyphs d e text line
+  same-typed text None = refl
+  same-typed text (Some line) = refl
+
+  same-column : (text : List ℕ) (line : Option (List ℕ)) → typed_column d new text line ≡ typed_column d e text line
+  same-column text None = refl
+  same-column text (Some line) = refl
+
+  -- the picture with this part of the text in the other rendition, and these words, what is typed behind them, and the cursor there
+  abbrev with_parts : ℕ → ℕ × ℕ → List Glyph → Option ℕ → List ℕ → PictureState
+  with_parts top part typed column text =
       if e.ended
       then blank_picture e.height e.width
-      else record {
+      else with_cursor (if nat_le 2 e.height then column else None) (record {
         height = e.height;
         width = e.width;
         columns = region_rows d e.width part (text_height e.height) (shown_rows (rows d e) top (text_height e.height))
-            ++ (if nat_le 2 e.height then glyph_row e.width (letter_glyphs (status_text d e) ++ glyphs) else []);
+            ++ (if nat_le 2 e.height
+            then glyph_row e.width (with_some_end e.width (letter_glyphs text ++ typed) (name_end d (is_rtl d e) e.name))
+            else []);
         row = row_of (rows d e) e.place - row_of (rows d e) top;
         column = cell_of e.width (rows d e) e.place - 1;
-      }
+      })
 
   pub looks_same : (top : ℕ) → picture d new top ≡ picture d e top
-  looks_same top = ap₂ (with_parts top) (same-part e.search_state) (same-prompt e.prompt)
+  looks_same top =
+      let line = input_line_of e in
+      let told : List ℕ → List ℕ = λ words. status_text d e ++ words in
+      let words = prompt_words new e.prompt in
+      ap (λ part. with_parts top part (typed_glyphs d new (told words) line) (typed_column d new (told words) line) (told words))
+      (same-part e.search_state)
+      ∙ ap₂ (λ glyphs column. with_parts top (seen_in d e e.search_state) glyphs column (told words)) (same-typed (told words) line)
+      (same-column (told words) line)
+      ∙ ap (λ w. with_parts top (seen_in d e e.search_state) (typed_glyphs d e (told w) line) (typed_column d e (told w) line) (told w))
+      (same-words e.prompt)
+
+  -- and the cursor's column in an input line
+  pub column_same : input_column d new ≡ input_column d e
+  column_same =
+      let line = input_line_of e in
+      let told : List ℕ → List ℕ = λ words. status_text d e ++ words in
+      ap (λ column. if nat_le 2 e.height then column else None) (same-column (told (prompt_words new e.prompt)) line)
+      ∙ ap (λ w. if nat_le 2 e.height then typed_column d e (told w) line else None) (same-words e.prompt)
 
 -- scrolling changes no row's look
 pub top_unseen : (d : Data) (e : Editor) (shown top : ℕ) → picture d (with_top e shown) top ≡ picture d e top
-top_unseen d e shown top = looks_same d e shown e.clipboard top
+top_unseen d e shown top = looks_same d e shown e.clipboard e.pasted e.quit_before e.goal e.soft e.typing e.clicks e.pressed top
 
 -- nor does a clipboard
 pub clipboard_unseen : (d : Data) (e : Editor) (clipboard : Bool) (top : ℕ) → picture d (record e { clipboard = clipboard }) top ≡ picture d e top
-clipboard_unseen d e clipboard top = looks_same d e e.top clipboard top
+clipboard_unseen d e clipboard top = looks_same d e e.top clipboard e.pasted e.quit_before e.goal e.soft e.typing e.clicks e.pressed top
+
+-- nor the cursor in an input line
+pub input_unseen : (d : Data) (e : Editor) (shown : ℕ) (clipboard : Bool) → input_column d (record e { top = shown; clipboard = clipboard }) ≡ input_column d e
+input_unseen d e shown clipboard = column_same d e shown clipboard e.pasted e.quit_before e.goal e.soft e.typing e.clicks e.pressed
 
 -- the picture that was drawn from a top is that of the editor which shows it first
 pub drawn_is : (d : Data) (e scrolled : Editor) (top : ℕ) (p : PictureState) → scrolled ≡ with_top e top → p ≡ picture d e top

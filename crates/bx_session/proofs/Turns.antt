@@ -13,8 +13,9 @@ use Rattle.bx_ucd.specs.Data.{Data}
 use Rattle.bx_session.specs.declared.status.Status.{Status}
 use Rattle.bx_session.specs.declared.status.Refused.{Refused}
 use Rattle.bx_session.specs.declared.status.Refused.TheVariants.{Edit, Paint, Size}
-use Rattle.bx_editor.specs.Picture.{scrolled}
-use Rattle.bx_session.specs.Session.{Session, clip_after, painted_after, painting, picture_of, then_clip, with_painting_owed}
+use Rattle.bx_editor.specs.declared.scrolling.Scroll.{Scroll}
+use Rattle.bx_editor.specs.Picture.{scrolled_by}
+use Rattle.bx_session.specs.Session.{Session, clip_after, painted_after, painting, picture_of, scroll_behind, then_clip, with_painting_owed}
 use Rattle.bx_session.specs.Session.{key_of_byte, after_spending, session_after_any, unpainted_after_byte, is_painted, StoreState}
 use Rattle.bx_session.specs.Painting.{FeedPaints, QueuesPicture}
 use Rattle.bx_session.specs.Feeding.{AfterByte, Feeds}
@@ -28,9 +29,10 @@ use Rattle.bx_session.specs.Running.{Turn, IsRead, TakesTurn, TakesTurns, read_i
 abbrev pub prefixed : List ℕ → Session → Session
 prefixed p s = record s { pending = p ++ s.pending }
 
-painted_after-prefixed : (d : Data) (p : List ℕ) (s : Session) (key : Option Key) → painted_after d (prefixed p s) key ≡ prefixed p (painted_after d s key)
-painted_after-prefixed d p s key =
-    let e = scrolled d s.editor in
+painted_after-prefixed : (d : Data) (scroll : Scroll) (p : List ℕ) (s : Session) (key : Option Key)
+    → painted_after d scroll (prefixed p s) key ≡ prefixed p (painted_after d scroll s key)
+painted_after-prefixed d scroll p s key =
+    let e = scrolled_by d scroll s.editor in
     let new = picture_of d e in
     let clip = clip_after s.editor key in
     ap (λ (q : List ℕ). record s { editor = e; painted = Some new; known = Some new; painting_owed = false; pending = q })
@@ -55,16 +57,20 @@ unpainted-prefixed d fault p s b =
     ap (λ (x : Session). session_after_any d fault x (key_of_byte s b)) (after_spending-prefixed p s b)
     ∙ session_after_any-prefixed d fault p (after_spending s b) (key_of_byte s b)
 
-either_prefixed : (paints : Bool) (d : Data) (fault : Option StoreFault) (p : List ℕ) (s : Session) (b : ℕ) (key : Option Key)
-    → (if paints then painted_after d (unpainted_after_byte d fault (prefixed p s) b) key else unpainted_after_byte d fault (prefixed p s) b)
-    ≡ prefixed p (if paints then painted_after d (unpainted_after_byte d fault s b) key else unpainted_after_byte d fault s b)
-either_prefixed true d fault p s b key =
-    ap (λ (x : Session). painted_after d x key) (unpainted-prefixed d fault p s b) ∙ painted_after-prefixed d p (unpainted_after_byte d fault s b) key
-either_prefixed false d fault p s b key = unpainted-prefixed d fault p s b
+either_prefixed : (paints : Bool) (d : Data) (fault : Option StoreFault) (scroll : Scroll) (p : List ℕ) (s : Session) (b : ℕ) (key : Option Key)
+    → (if paints then painted_after d scroll (unpainted_after_byte d fault (prefixed p s) b) key else unpainted_after_byte d fault (prefixed p s) b)
+    ≡ prefixed p (if paints then painted_after d scroll (unpainted_after_byte d fault s b) key else unpainted_after_byte d fault s b)
+either_prefixed true d fault scroll p s b key =
+    ap (λ (x : Session). painted_after d scroll x key) (unpainted-prefixed d fault p s b)
+    ∙ painted_after-prefixed d scroll p (unpainted_after_byte d fault s b) key
+either_prefixed false d fault scroll p s b key = unpainted-prefixed d fault p s b
 
 AfterByte-prefixed : (d : Data) (fault : Option StoreFault) (p : List ℕ) (s : Session) (b : ℕ) (a : Result Status Refused) (s' : Session) → AfterByte d fault s b a s'
     → AfterByte d fault (prefixed p s) b a (prefixed p s')
-AfterByte-prefixed d fault p s b (Ok status) s' h = (ap (prefixed p) h.0 ∙ sym (either_prefixed (is_painted s b) d fault p s b (key_of_byte s b)), h.1)
+AfterByte-prefixed d fault p s b (Ok status) s' h = (
+  ap (prefixed p) h.0 ∙ sym (either_prefixed (is_painted s b) d fault (scroll_behind s.editor (key_of_byte s b)) p s b (key_of_byte s b)),
+  h.1,
+)
 AfterByte-prefixed d fault p s b (Err Edit) s' h = (ap (prefixed p) h.0 ∙ sym (after_spending-prefixed p s b), h.1)
 AfterByte-prefixed d fault p s b (Err Paint) s' h = (ap (prefixed p) h.0 ∙ ap with_painting_owed (sym (unpainted-prefixed d fault p s b)), h.1)
 AfterByte-prefixed d fault p s b (Err Size) s' h = h

@@ -6,8 +6,9 @@ pub use Rattle.bx_keys.specs.Waiting.{keys_from}
 use Rattle.bx_store.specs.declared.store.StoreFault.{StoreFault}
 use Rattle.bx_ucd.specs.Data.{Data}
 use Rattle.bx_session.specs.Session.{Session, at_opening, after_spending, after_byte, owing_after_byte, after_told, owing_after_told, after_sending}
-use Rattle.bx_session.specs.Session.{with_clipboard}
-use Rattle.bx_session.specs.Replaying.{after_all_replayed, after_going, after_replay, at_replay_end}
+use Rattle.bx_editor.specs.Settings.{SettingsState}
+use Rattle.bx_session.specs.Session.{owing_with_settings, with_clipboard, with_settings}
+use Rattle.bx_session.specs.Replaying.{after_all_replayed, after_going, after_replay, at_replay_end, at_unscrolled_end, unmoved_after_replay}
 pub use Rattle.bx_session.specs.Replaying.{after_journal, after_replaying}
 pub use Rattle.bx_session.specs.Painting.{ShowsState}
 
@@ -21,6 +22,10 @@ pub record AlwaysShowsState : Type 0 where
   pub owing_told : (d : Data) (s : Session) (height width : ℕ) → ShowsState d (owing_after_told s height width)
   pub replay : (d : Data) (s : Session) (b : ℕ) → ShowsState d (after_replay d s b)
   pub replay_end : (d : Data) (s : Session) → ShowsState d (at_replay_end d s)
+  pub unmoved_replay : (d : Data) (s : Session) (b : ℕ) → ShowsState d (unmoved_after_replay d s b)
+  pub unscrolled_end : (d : Data) (s : Session) → ShowsState d (at_unscrolled_end d s)
+  pub settings : (d : Data) (s : Session) (settings : SettingsState) → ShowsState d (with_settings d s settings)
+  pub owing_settings : (d : Data) (s : Session) (settings : SettingsState) → ShowsState d (owing_with_settings s settings)
   pub clipboard : (d : Data) (s : Session) → ShowsState d s → ShowsState d (with_clipboard s)
   pub going : (d : Data) (s : Session) (offset : ℕ) → ShowsState d (after_going d s offset)
   pub sending : (d : Data) (s : Session) (count : ℕ) → ShowsState d s → ShowsState d (after_sending s count)

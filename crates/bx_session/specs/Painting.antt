@@ -5,7 +5,7 @@ use Rattle.std.specs.Borrow.{Bor}
 use Rattle.base64.specs.Engines.{standard}
 use Rattle.base64.specs.GeneralPurpose.{decode_of}
 use Rattle.bx_grid.specs.Picture.{PictureState, IsIdle, Shows}
-use Rattle.bx_grid.specs.Grid.{AreWholeTokens, IsPicture}
+use Rattle.bx_grid.specs.Grid.{AreWholeTokens, GridState, IsPicture}
 use Rattle.bx_grid.specs.Terminal.{Terminal, reads}
 use Rattle.bx_ucd.specs.Data.{Data}
 use Rattle.bx_editor.specs.Editor.{Editor}
@@ -44,6 +44,10 @@ QueuesPicture d before known new = (bytes : List ℕ) × Paints d before known n
 -- changes nothing about the screen's content, so None stands in its place here.
 abbrev pub FeedPaints : Data → Session → ℕ → Session → Type 0
 FeedPaints d old b new = QueuesPicture d old.pending (unpainted_after_byte d None old b).known new
+
+-- the page of a picture
+abbrev pub page_in : PictureState → GridState
+page_in picture = record { height = picture.height; width = picture.width; columns = picture.columns }
 
 -- the text that is lent, if one is
 abbrev pub text_in : Option (Bor (List ℕ)) → Option (List ℕ)

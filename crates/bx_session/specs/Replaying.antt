@@ -69,15 +69,27 @@ session_scrolled d s = record s { editor = scrolled d s.editor }
 abbrev pub session_moved_by : Data → Scroll → Session → Session
 session_moved_by d scroll s = record s { editor = moved_by d scroll s.editor }
 
+-- the session after the key of a journal's byte, if it completes one, before the key moves the top
+abbrev pub unmoved_after_key : Data → Session → Option Key → Session
+unmoved_after_key d s None = s
+unmoved_after_key d s (Some key) = session_replayed_on d (session_scrolled d s) key
+
+-- how such a key moves the top; without a key it stays
+abbrev pub moved_behind : Data → Session → Option Key → Session → Session
+moved_behind d s None new = new
+moved_behind d s (Some key) new = session_moved_by d (scroll_of s.editor key) new
+
 -- the session after the key of a journal's byte, if it completes one
 abbrev pub after_replayed_key : Data → Session → Option Key → Session
-after_replayed_key d s None = s
-after_replayed_key d s (Some key) =
-    let before = session_scrolled d s in session_moved_by d (scroll_of before.editor key) (session_replayed_on d before key)
+after_replayed_key d s key = moved_behind d s key (unmoved_after_key d s key)
 
 -- the byte's key is applied, and a painting is owed
 abbrev pub after_replay : Data → Session → ℕ → Session
 after_replay d s b = with_painting_owed (after_replayed_key d (after_spending s b) (key_of_byte s b))
+
+-- the same, where there was no memory for moving the top
+abbrev pub unmoved_after_replay : Data → Session → ℕ → Session
+unmoved_after_replay d s b = with_painting_owed (unmoved_after_key d (after_spending s b) (key_of_byte s b))
 
 -- the session after bytes of a journal
 abbrev pub after_replaying : Data → Session → List ℕ → Session

@@ -3,6 +3,7 @@
 use Rattle.std.specs.Prelude.{ℕ, Bool, true, false, not, ◌||◌, List, [], ◌++◌, drop, Option, Some, None, if◌then◌else◌, ◌≡◌, is_some, option_map}
 use Rattle.bx_common.specs.declared.base.Base.{Base}
 use Rattle.bx_keys.specs.declared.key.Key.{Key}
+use Rattle.bx_keys.specs.declared.key.Key.TheVariants.{Save}
 use Rattle.bx_keys.specs.Keys.{head_of, key_after, rest_after}
 use Rattle.bx_grid.specs.Tokens.{clip_bytes}
 use Rattle.bx_grid.specs.Picture.{PictureState}
@@ -171,10 +172,18 @@ abbrev pub clipboard_if : Bool → Session → Session
 clipboard_if true s = with_clipboard s
 clipboard_if false s = s
 
--- the session works by these settings, which are told before anything is sent: the first picture is queued anew
+-- the session works by these settings, which are told before anything is sent: what was queued is dropped
+abbrev pub unpainted_with_settings : Session → SettingsState → Session
+unpainted_with_settings s settings =
+    record s { editor = editor_settings.with_settings s.editor settings; painted = None; known = None; pending = [] }
+
+-- the session works by these settings, and its first picture is queued anew
 abbrev pub with_settings : Data → Session → SettingsState → Session
-with_settings d s settings =
-    with_painting d (record s { editor = editor_settings.with_settings s.editor settings; painted = None; known = None; pending = [] })
+with_settings d s settings = with_painting d (unpainted_with_settings s settings)
+
+-- the same, where the painting was refused
+abbrev pub owing_with_settings : Session → SettingsState → Session
+owing_with_settings s settings = with_painting_owed (unpainted_with_settings s settings)
 
 -- ---- a told size
 
@@ -231,7 +240,12 @@ stores_by e (Some key) = is_some (saving_of e key)
 abbrev pub is_save_byte : Session → ℕ → Bool
 is_save_byte s b = stores_by s.editor (key_of_byte s b)
 
--- the text that it stores: a Save first ends a paste
+-- before it stores the text, a Save ends a paste
+abbrev pub ready_to_store : Data → Editor → Key → Editor
+ready_to_store d e Save = paste_ended d e
+ready_to_store d e key = e
+
+-- the text that it stores
 abbrev pub text_to_save : Data → Editor → List ℕ
 text_to_save d e = (paste_ended d e).content.text
 

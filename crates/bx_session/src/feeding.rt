@@ -6,7 +6,7 @@ ghost use Rattle.bx_keys.specs.Decoder.{HasSides};
 ghost use Rattle.bx_editor.specs.Keys as keys;
 ghost use Rattle.bx_store.specs.declared.store.StoreFault.{StoreFault};
 ghost use Rattle.bx_session.specs.Painting.{FeedAppends, FeedPaints, ToldPaints};
-ghost use Rattle.bx_session.specs.Session.{StoreAfter, after_spending, is_painted, is_save_byte, key_of_byte, may_refuse_key, needs_painting, scroll_behind, session_after_key, store_state, stores_by, text_to_save, unpainted_after_byte, unpainted_after_told};
+ghost use Rattle.bx_session.specs.Session.{StoreAfter, after_spending, is_painted, is_save_byte, key_of_byte, may_refuse_key, needs_painting, ready_to_store, scroll_behind, session_after_key, store_state, stores_by, text_to_save, unpainted_after_byte, unpainted_after_told};
 ghost use Rattle.bx_session.specs.Feeding.{Feeds, ToldBy, is_applied, is_idle};
 
 use crate::saving::save_pieces;
@@ -68,7 +68,8 @@ impl<D: BidiData + Drop> Session<D> {
 
     /// Applies a key, without painting. `fault` belongs to a key for which the text was stored: why that failed, or None.
     ///
-    /// Errors: `Edit` if memory runs out, only for a key that edits, moves, copies, finds or ends a paste; nothing has changed.
+    /// Errors: `Edit` if memory runs out, only for a key that edits, moves, copies, finds or ends a paste; nothing has changed. Never for a
+    /// key that stores the text where no paste is under way.
     pub(crate) fn press(&mut self, key: Key, fault: Option<StoreFault>) -> Result<(), Refused>
         requires sides { HasSides key }
         ensures after_key { OnOk result (self.new ≡ record self.old {
@@ -76,6 +77,7 @@ impl<D: BidiData + Drop> Session<D> {
         }) }
         ensures err { OnErr result (self.new ≡ self.old) }
         ensures edits { OnErr result (keys.may_refuse self.old.session.editor key ≡ true) }
+        ensures stores { stores_by self.old.session.editor (Some key) ≡ true → self.old.session.editor.pasted ≡ None → IsOk result }
         ensures refused { OnErr result (result ≡ Err Refused.Edit) }
     {
         let Ok(()) = self.editor.apply(key, fault) else {
@@ -87,12 +89,30 @@ impl<D: BidiData + Drop> Session<D> {
         Ok(())
     }
 
-    /// Stores the text, if this key does that where no paste is under way. Returns why that failed, if it did.
+    /// Ends a paste before a Save, which stores what it has brought too.
+    ///
+    /// Errors: `Edit` if memory runs out, only for a Save while a paste is under way; nothing has changed.
+    fn get_ready_for(&mut self, key: Key) -> Result<(), Refused>
+        ensures ok { OnOk result (self.new ≡ record self.old {
+          session = record self.old.session { editor = ready_to_store (D.data self.old.tables) self.old.session.editor key };
+        }) }
+        ensures none { OnOk result (keys.is_save key ≡ true → self.new.session.editor.pasted ≡ None) }
+        ensures err { OnErr result (self.new ≡ self.old) }
+        ensures edits { OnErr result (keys.may_refuse self.old.session.editor key ≡ true) }
+        ensures refused { OnErr result (result ≡ Err Refused.Edit) }
+    {
+        if matches!(key, Key::Save) {
+            return self.end_paste();
+        }
+        Ok(())
+    }
+
+    /// Stores the text, if this key does that. Returns why that failed, if it did.
     fn store_for<S: Store>(&self, key: Key, store: &mut S) -> Option<StoreFault>
-        ensures stored { StoreAfter (is_some (keys.saving_of self.now.session.editor key)) result self.now.session.editor.content.text
+        ensures stored { StoreAfter (stores_by self.now.session.editor (Some key)) result self.now.session.editor.content.text
             (store_state S.contents S.faults store.old) (store_state S.contents S.faults store.new) }
-        ensures none { is_some (keys.saving_of self.now.session.editor key) ≡ false → result ≡ None }
-        ensures untouched { is_some (keys.saving_of self.now.session.editor key) ≡ false → store.new ≡ store.old }
+        ensures none { stores_by self.now.session.editor (Some key) ≡ false → result ≡ None }
+        ensures untouched { stores_by self.now.session.editor (Some key) ≡ false → store.new ≡ store.old }
     {
         match self.editor.saving_of(key) {
             Some(saving) => save_pieces(saving, self.editor.pieces(), store).err(),
@@ -116,9 +136,7 @@ impl<D: BidiData + Drop> Session<D> {
         ensures edits { OnErr result (keys.may_refuse self.old.session.editor key ≡ true) }
         ensures refused { OnErr result (result ≡ Err Refused.Edit) }
     {
-        if matches!(key, Key::Save) {
-            self.end_paste()?;
-        }
+        self.get_ready_for(key)?;
         let fault = self.store_for(key, store);
         self.press(key, fault)
     }

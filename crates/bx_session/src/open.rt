@@ -5,7 +5,7 @@ ghost use Rattle.bx_common.specs.Characters.{largest_text};
 ghost use Rattle.bx_grid.specs.Picture.{is_size};
 ghost use Rattle.bx_editor.specs.Editor.{Causes};
 ghost use Rattle.bx_session.specs.Painting.{QueuesPicture};
-ghost use Rattle.bx_session.specs.Session.{at_opening, with_settings};
+ghost use Rattle.bx_session.specs.Session.{at_opening, owing_with_settings, with_settings};
 
 use crate::session::Session;
 use crate::status::Refused;
@@ -17,10 +17,12 @@ use bx_ucd::BidiData;
 impl<D: BidiData + Drop> Session<D> {
     /// Works by these settings from the first picture on, which is queued anew. To be called before anything is sent.
     ///
-    /// Errors: `Paint` if memory runs out: the painting is owed.
+    /// Errors: `Paint` if memory runs out: the settings hold, nothing is queued, and the painting is owed.
     pub fn set(&mut self, settings: Settings) -> Result<(), Refused>
         ensures tables { self.new.tables ≡ self.old.tables }
         ensures ok { OnOk result (self.new.session ≡ with_settings (D.data self.old.tables) self.old.session settings) }
+        ensures paints { OnOk result (QueuesPicture (D.data self.old.tables) [] None self.new.session) }
+        ensures err { OnErr result (self.new.session ≡ owing_with_settings self.old.session settings) }
         ensures refused { OnErr result (result ≡ Err Refused.Paint) }
     {
         self.editor.set(settings);

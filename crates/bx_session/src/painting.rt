@@ -1,13 +1,13 @@
 //! Painting: the bytes that bring the picture to the terminal, and a text to its clipboard.
 
-ghost use Rattle.std.specs.Prelude.{◌≡◌, ◌++◌, ℕ, List, true, IfOk, IfSome, Ok, OnErr, OnOk};
+ghost use Rattle.std.specs.Prelude.{◌≡◌, ◌++◌, ℕ, List, true, IfOk, IfSome, Ok, OnErr, OnOk, option_map};
 ghost use Rattle.base64.specs.Engines.{standard};
 ghost use Rattle.base64.specs.GeneralPurpose.{decode_of};
 ghost use Rattle.base64.specs.GeneralPurpose.{encode_of};
 ghost use Rattle.bx_grid.specs.Picture.{PictureState, Shows, is_size};
 ghost use Rattle.bx_grid.specs.Grid.{AreWholeTokens, IsPicture};
 ghost use Rattle.bx_grid.specs.Terminal.{Terminal, reads};
-ghost use Rattle.bx_session.specs.Painting.{AppendsPainting, QueuesPicture, Updates, text_in};
+ghost use Rattle.bx_session.specs.Painting.{AppendsPainting, QueuesPicture, Updates, page_in, text_in};
 ghost use Rattle.bx_session.specs.Session.{clip_after, painted_after, painting, then_clip, with_painting, with_painting_owed};
 ghost use Rattle.bx_session.specs.Feeding.{known_if};
 
@@ -120,7 +120,9 @@ fn page_of(alloc: Global, spare: Option<Grid>, height: u16, width: u16) -> Resul
 }
 
 /// The page of an old picture, on which the next picture can be made.
-fn spare_of(picture: Option<Picture>) -> Option<Grid> {
+fn spare_of(picture: Option<Picture>) -> Option<Grid>
+    ensures { result ≡ option_map page_in picture }
+{
     match picture {
         Some(picture) => Some(picture.into_grid()),
         None => None,

@@ -1,11 +1,11 @@
 //! Replay of a journal's bytes in a session that opened the same text: keys are applied again, and nothing is stored.
 
 ghost use Rattle.std.specs.Prelude.{◌≡◌, ◌↔◌, ◌⊎◌, IsErrOf, IsOk, IsTrue, true, None, Some, is_some, IfErr, IfSome, OnErr, OnOk};
-ghost use Rattle.bx_session.specs.Session.{after_spending, key_of_byte, may_refuse_key, store_state, with_text};
+ghost use Rattle.bx_session.specs.Session.{after_spending, key_of_byte, store_state, with_text};
 ghost use Rattle.bx_keys.specs.Decoder.{HasSides};
 ghost use Rattle.bx_editor.specs.Keys.{may_refuse};
 ghost use Rattle.bx_editor.specs.Putting.{paste_ended};
-ghost use Rattle.bx_session.specs.Replaying.{after_passed, after_replay, after_replayed_key, at_replay_end, at_unscrolled_end, session_after_replayed, session_moved_by, session_replayed_on, session_scrolled};
+ghost use Rattle.bx_session.specs.Replaying.{after_passed, after_replay, after_replayed_key, at_replay_end, at_unscrolled_end, session_after_replayed, session_moved_by, session_replayed_on, session_scrolled, unmoved_after_key, unmoved_after_replay};
 ghost use Rattle.bx_store.specs.Faults.{with_fault};
 
 use crate::saving::{is_text, save_pieces};
@@ -130,20 +130,24 @@ impl<D: BidiData + Drop> Session<D> {
     /// Scrolls to the cursor, as the painting before this key did in the session, applies the key of a journal, and moves the top as the
     /// key asks for.
     ///
-    /// Errors: `Edit` and `Paint` if memory runs out for the key and for scrolling before it; nothing has changed. `Paint` too if it runs
-    /// out for moving the top: the key is applied, and the top stays.
+    /// Errors: `Edit` if memory runs out for the key or for scrolling before it; nothing has changed. `Paint` if it runs out for moving
+    /// the top: the key is applied, and the top stays.
     fn scroll_and_press(&mut self, key: Key) -> Result<(), Refused>
         requires sides { HasSides key }
         ensures after_key { OnOk result (self.new ≡ record self.old {
           session = after_replayed_key (D.data self.old.tables) self.old.session (Some key);
         }) }
-        ensures err { OnErr result (self.new ≡ self.old) }
-        ensures edits { IsErrOf result Refused.Edit → may_refuse self.old.session.editor key ≡ true }
+        ensures unmoved { IsErrOf result Refused.Paint → self.new ≡ record self.old {
+          session = unmoved_after_key (D.data self.old.tables) self.old.session (Some key);
+        } }
+        ensures err { IsErrOf result Refused.Edit → self.new ≡ self.old }
         ensures refused { OnErr result ((result ≡ Err Refused.Edit) ⊎ (result ≡ Err Refused.Paint)) }
     {
         let top = self.editor.top();
-        self.scroll()?;
         let scroll = self.editor.scroll_of(key);
+        if self.scroll().is_err() {
+            return Err(Refused::Edit);
+        }
         match self.press_again(key) {
             Ok(()) => self.move_top(scroll),
             Err(refused) => {
@@ -155,15 +159,18 @@ impl<D: BidiData + Drop> Session<D> {
 
     /// Applies the key of a journal that a byte completed, if it completed one.
     ///
-    /// Errors: `Edit` and `Paint` if memory runs out for the key and for scrolling before it; nothing has changed.
+    /// Errors: `Edit` if memory runs out for the key or for scrolling before it; nothing has changed. `Paint` if it runs out for moving
+    /// the top: the key is applied, and the top stays.
     fn press_completed(&mut self, key: Option<Key>) -> Result<(), Refused>
         requires sides { IfSome key HasSides }
         ensures after_key { OnOk result (self.new ≡ record self.old {
           session = after_replayed_key (D.data self.old.tables) self.old.session key;
         }) }
-        ensures err { OnErr result (self.new ≡ self.old) }
-        ensures edits { IsErrOf result Refused.Edit → may_refuse_key self.old.session.editor key ≡ true }
-        ensures scrolls { IsErrOf result Refused.Paint → is_some key ≡ true }
+        ensures unmoved { IsErrOf result Refused.Paint → self.new ≡ record self.old {
+          session = unmoved_after_key (D.data self.old.tables) self.old.session key;
+        } }
+        ensures err { IsErrOf result Refused.Edit → self.new ≡ self.old }
+        ensures keys { OnErr result (is_some key ≡ true) }
         ensures refused { OnErr result ((result ≡ Err Refused.Edit) ⊎ (result ≡ Err Refused.Paint)) }
     {
         match key {
@@ -175,19 +182,23 @@ impl<D: BidiData + Drop> Session<D> {
     /// Decodes a byte of a journal and applies the key that it completes, without painting. A Save stores nothing, and a Quit
     /// does not end the session. Call [`Session::end_replay`] after the last byte.
     ///
-    /// Errors: `Edit` if memory runs out for the key, `Paint` if it does for scrolling before the key: its bytes are consumed, and
-    /// nothing else has changed.
+    /// Errors: `Edit` if memory runs out for the key or for scrolling before it: its bytes are consumed, and nothing else has changed.
+    /// `Paint` if it runs out for moving the top behind the key: the key is applied, and the top stays. Never without a key.
     pub fn replay(&mut self, byte: u8) -> Result<(), Refused>
         ensures after_byte { OnOk result (self.new ≡ record self.old { session = after_replay (D.data self.old.tables) self.old.session byte }) }
-        ensures err { OnErr result (self.new ≡ record self.old { session = after_spending self.old.session byte }) }
-        ensures edits { IsErrOf result Refused.Edit → may_refuse_key self.old.session.editor (key_of_byte self.old.session byte) ≡ true }
-        ensures scrolls { IsErrOf result Refused.Paint → is_some (key_of_byte self.old.session byte) ≡ true }
+        ensures unmoved { IsErrOf result Refused.Paint → self.new ≡ record self.old {
+          session = unmoved_after_replay (D.data self.old.tables) self.old.session byte;
+        } }
+        ensures err { IsErrOf result Refused.Edit → self.new ≡ record self.old { session = after_spending self.old.session byte } }
+        ensures keys { OnErr result (is_some (key_of_byte self.old.session byte) ≡ true) }
         ensures refused { OnErr result ((result ≡ Err Refused.Edit) ⊎ (result ≡ Err Refused.Paint)) }
     {
         let key = self.decode(byte);
-        self.press_completed(key)?;
-        self.painting_owed = true;
-        Ok(())
+        let answer = self.press_completed(key);
+        if !matches!(answer, Err(Refused::Edit)) {
+            self.painting_owed = true;
+        }
+        answer
     }
 
     /// Ends a replay: a paste ends, no search is on, nothing is asked, and the next edit begins a run. The text is the stored one unless

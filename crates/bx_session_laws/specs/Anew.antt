@@ -5,8 +5,9 @@ use Rattle.bx_common.specs.declared.base.Base.{Base}
 use Rattle.bx_store.specs.declared.store.StoreFault.{StoreFault}
 use Rattle.bx_ucd.specs.Data.{Data}
 use Rattle.bx_session.specs.Session.{Session, with_painting, at_opening, after_spending, after_byte, owing_after_byte, after_told, owing_after_told, after_sending}
-use Rattle.bx_session.specs.Session.{with_clipboard}
-use Rattle.bx_session.specs.Replaying.{after_going, after_replay, at_replay_end}
+use Rattle.bx_session.specs.Session.{owing_with_settings, with_clipboard, with_settings}
+use Rattle.bx_session.specs.Replaying.{after_going, after_replay, at_replay_end, at_unscrolled_end, unmoved_after_replay}
+use Rattle.bx_editor.specs.Settings.{SettingsState}
 use Rattle.bx_editor.specs.Functions.{HasRows}
 
 -- if no painting is owed, another painting changes nothing: it queues no byte, and the top and the picture stay
@@ -26,6 +27,11 @@ pub record AlwaysStaysPainted : Type 0 where
   pub owing_told : (d : Data) (s : Session) (height width : ℕ) → StaysPainted d (owing_after_told s height width)
   pub replay : (d : Data) (s : Session) (b : ℕ) → StaysPainted d (after_replay d s b)
   pub replay_end : (d : Data) (s : Session) → StaysPainted d (at_replay_end d s)
+  pub unmoved_replay : (d : Data) (s : Session) (b : ℕ) → StaysPainted d (unmoved_after_replay d s b)
+  pub unscrolled_end : (d : Data) (s : Session) → StaysPainted d (at_unscrolled_end d s)
+  pub settings : (d : Data) (s : Session) (settings : SettingsState) → HasRows (with_settings d s settings).editor
+      → StaysPainted d (with_settings d s settings)
+  pub owing_settings : (d : Data) (s : Session) (settings : SettingsState) → StaysPainted d (owing_with_settings s settings)
   pub clipboard : (d : Data) (s : Session) → StaysPainted d s → StaysPainted d (with_clipboard s)
   pub going : (d : Data) (s : Session) (offset : ℕ) → StaysPainted d (after_going d s offset)
   pub sending : (d : Data) (s : Session) (count : ℕ) → StaysPainted d s → StaysPainted d (after_sending s count)

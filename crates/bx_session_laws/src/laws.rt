@@ -31,10 +31,10 @@ pub fn replays_apply_keys()
     ensures { ReplaysKeys }
 {}
 
-/// A session's bytes, replayed over its opened text, restore text, history, runs, place, mark and its softness, held bytes,
-/// query, replacement, direction, kept column, window and unfinished input, wherever it saved and even if it quit; a paste that is
-/// under way ends. So it is unless the session refused a key for want of memory, which the replay applies, or refused a painting
-/// and was pointed at a row after that.
+/// A session's bytes, replayed over its opened text, restore text, history, runs, place, mark and its softness, presses, held bytes,
+/// query, replacement, direction, kept column, window, settings and unfinished input, wherever it saved and even if it quit; a paste that
+/// is under way ends. So it is unless the session refused a key for want of memory, which the replay applies; or refused a painting,
+/// and after that a key rested on the row shown first; or found at a save that another program had changed the file.
 pub fn recovery_gives_back()
     ensures { RecoveryGivesBack }
 {}
