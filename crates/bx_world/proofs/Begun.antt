@@ -140,7 +140,7 @@ any_stays d t s (Some key) =
     let new : Session = session_replayed_on d from key in
     stays_on t s new (after_replayed_key d s (Some key))
     (stays_on t s from new (passed_stays t s (scrolled d s.editor) refl refl) (replayed_stays d t over.prompt over.search_state from key))
-    (passed_stays t new (moved_by d (scroll_of from.editor key) new.editor) refl refl)
+    (passed_stays t new (moved_by d (scroll_of s.editor key) new.editor) refl refl)
 
 byte_stays : (d : Data) (t : Terminal) (s : Session) (b : ℕ) → StaysKnown t s (after_replay d s b)
 byte_stays d t s b =

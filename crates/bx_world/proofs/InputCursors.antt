@@ -89,11 +89,10 @@ shown_part w before (g ∷ gs) cell s = by (nat_le (before + cell) w) refl (nat_
 
 -- the words of the row are there
 some_words : (d : Data) (e : Editor) → 1 ≤ length (row_text d e)
-some_words d e = by e.changed where
-  by : (changed : Bool) {unit : List ℕ} {others : List ℕ} {more : List ℕ}
-      → 1 ≤ length ((((if changed then codes "* " else codes "- ") ++ unit) ++ others) ++ more)
-  by true = omega arith
-  by false = omega arith
+some_words d e = by e.changed _ _ _ where
+  by : (changed : Bool) (unit others more : List ℕ) → 1 ≤ length ((((if changed then codes "* " else codes "- ") ++ unit) ++ others) ++ more)
+  by true unit others more = omega arith
+  by false unit others more = omega arith
 
 -- a cursor behind other columns is in no first column
 behind_some : (w before : ℕ) (all : List Glyph) (cell : ℕ) (left_out shown : List Glyph) (column : ℕ) → 1 ≤ before
