@@ -108,16 +108,15 @@ record IsLast (p : PictureState) (height column : ℕ) : Type 0 where
 
 in_last_row : (d : Data) (e : Editor) (top column : ℕ) → e.ended ≡ false → input_column d e ≡ Some column → IsLast (picture d e top) e.height column
 in_last_row d e top column on is =
+    let under : PictureState = record {
+      height = e.height;
+      width = e.width;
+      columns = region_rows d e.width (seen d e) (text_height e.height) (shown_rows (rows d e) top (text_height e.height)) ++ status_columns d e;
+      row = row_of (rows d e) e.place - row_of (rows d e) top;
+      column = cell_of e.width (rows d e) e.place - 1;
+    } in
     subst (λ (p : PictureState). IsLast p e.height column) (ap (λ ended. if ended then blank_picture e.height e.width else text_picture d e top (rows d e)) (sym on))
-    (subst (λ (c : Option ℕ). IsLast (with_cursor c (under e)) e.height column) (sym is) (record { row = refl; column_is = refl })) where
-      under : Editor → PictureState
-      under e = record {
-        height = e.height;
-        width = e.width;
-        columns = region_rows d e.width (seen d e) (text_height e.height) (shown_rows (rows d e) top (text_height e.height)) ++ status_columns d e;
-        row = row_of (rows d e) e.place - row_of (rows d e) top;
-        column = cell_of e.width (rows d e) e.place - 1;
-      }
+    (subst (λ (c : Option ℕ). IsLast (with_cursor c under) e.height column) (sym is) (record { row = refl; column_is = refl }))
 
 -- the column of a cursor in the input line behind a text
 record IsTyped (d : Data) (e : Editor) (text : List ℕ) (column : ℕ) : Type 0 where
