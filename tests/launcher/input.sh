@@ -83,6 +83,7 @@ Control and @, C, R, V, W, X:\000\003\022\026\027\030:\033[72~\033[73~\033[71~\0
 Control and A, B, F, O:\001\002\006\017:\033[100~\033[71~\033[70~\033[103~
 Control and the key Q of a Hebrew layout:\037:\021
 xterm, Control and the keys Q and W of a Hebrew layout, where it is asked to tell them:\033[27;5;47~\033[27;5;39~:\021\033[70~
+xterm, Enter with Shift, with Control and with both, and TAB with Control, where it is asked to tell them:\033[27;2;13~\033[27;5;13~\033[27;6;13~\033[27;5;9~:\033[95~\033[95~\033[95~\t
 F7 and F10:\033[18~\033[21~:\033[70~\021
 xterm, rxvt and others, F3 with Shift:\033[1;2R\033[25~\033O1;2R:\033[101~\033[101~\033[101~
 xterm, Right and Left with Alt and Shift:\033[1;4C\033[1;4D:\033[81~\006\033[81~\002

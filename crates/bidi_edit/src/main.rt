@@ -22,7 +22,8 @@ mod files;
 mod telling;
 
 use bx_command::{
-    Files, JournalFile, Options, command_line, empty_journal, refuse, refuse_words, words_of,
+    Files, JournalFile, JournalSyncs, Options, command_line, empty_journal, refuse, refuse_words,
+    words_of,
 };
 use bx_input::FrameReader;
 use bx_recovery::{Beginning, Replayed, recover};
@@ -47,7 +48,12 @@ fn edit_file<'a, R: Read + Drop, W: Write, S: Store>(
     writer: &mut W,
     store: &mut S,
 ) -> Result<(), ProgramFault<'a>> {
-    let journal = JournalFile::open(*rt, options.journal, journal_notes(options));
+    let syncs = if options.frames {
+        JournalSyncs::AtSaves
+    } else {
+        JournalSyncs::EachSecond
+    };
+    let journal = JournalFile::open(*rt, options.journal, journal_notes(options), syncs);
     let mut recorder = Recorder::new(rt.alloc(), WrittenJournal::new(journal));
     let mut device = Wired::new(&mut reader, &mut recorder, writer, store);
     let changes = edit(&mut device, beginning);

@@ -10,7 +10,7 @@ use std::time::Instant;
 /// The byte of the key Save, Ctrl-S.
 const SAVE: u8 = 0x13;
 
-/// Number of seconds after the last sync at which a flush syncs again.
+/// Number of seconds after the last sync at which a flush syncs again, if it goes by the clock.
 const WAIT: u64 = 1;
 
 /// The texts that are written to standard error, each with its line end or NUL.
@@ -22,8 +22,17 @@ pub struct JournalNotes<'a> {
     pub kept: &'a str,
 }
 
-/// A file that a journal is appended to. A flush syncs it to disk if a Save was written since the last sync, if that was at
-/// least a second ago, or if there is a fault.
+/// When a flush of a journal syncs it to disk. In either case it does if a Save was written since the last sync, or if there is a
+/// fault.
+#[derive(Clone, Copy)]
+pub enum JournalSyncs {
+    /// Also if the last sync was at least a second ago.
+    EachSecond,
+    /// Not else: another process syncs the file each second, so that no painting waits for the disk.
+    AtSaves,
+}
+
+/// A file that a journal is appended to. A flush syncs it to disk as [`JournalSyncs`] says.
 ///
 /// The first failed open, write or flush prints a fault to standard error. The caller writes the missing bytes again, so the
 /// fault ends with a successful flush after a successful write, which is printed too.
@@ -35,6 +44,7 @@ pub struct JournalFile<'a> {
     path: Option<&'a str>,
     /// What is written to standard error.
     notes: JournalNotes<'a>,
+    syncs: JournalSyncs,
     /// None until it is opened.
     file: Option<File>,
     /// When it was last synced; None before the first time.
@@ -72,11 +82,13 @@ impl<'a> JournalFile<'a> {
         rt: HostRuntime,
         path: Option<&'a str>,
         notes: JournalNotes<'a>,
+        syncs: JournalSyncs,
     ) -> JournalFile<'a> {
         let mut journal = JournalFile {
             rt,
             path,
             notes,
+            syncs,
             file: None,
             synced: None,
             holds_save: false,
@@ -110,10 +122,13 @@ impl<'a> JournalFile<'a> {
         answer
     }
 
-    /// Whether a flush should sync. It should if the clock cannot be read.
+    /// Whether a flush should sync. If that goes by the clock, it should if the clock cannot be read.
     fn is_due(&self) -> bool {
         if self.holds_save || self.has_fault {
             return true;
+        }
+        if matches!(self.syncs, JournalSyncs::AtSaves) {
+            return false;
         }
         let Some(synced) = &self.synced else {
             return true;

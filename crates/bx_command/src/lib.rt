@@ -12,7 +12,7 @@ mod words;
 
 pub use check::{TextFault, check_text};
 pub use files::Files;
-pub use journal::{JournalFile, JournalNotes, empty_journal};
+pub use journal::{JournalFile, JournalNotes, JournalSyncs, empty_journal};
 pub use line::start_of_line;
 pub use parsed::Options;
 pub use shared::{

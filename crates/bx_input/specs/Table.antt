@@ -177,6 +177,15 @@ search_keys = row (csi (codes "18~")) (csi (codes "70~")) Find ∷ row (csi (cod
 abbrev quit_keys : List Row
 quit_keys = row (csi (codes "21~")) (0x11 ∷ []) Quit ∷ row (csi (codes "27;5;47~")) (0x11 ∷ []) Quit ∷ []
 
+-- Enter with Shift, with Ctrl and with both, and TAB with Ctrl, of terminals that are asked to tell modified keys
+abbrev told_keys : List Row
+told_keys =
+    row (csi (codes "27;2;13~")) (csi (codes "95~")) NewLine
+    ∷ row (csi (codes "27;5;13~")) (csi (codes "95~")) NewLine
+    ∷ row (csi (codes "27;6;13~")) (csi (codes "95~")) NewLine
+    ∷ row (csi (codes "27;5;9~")) (0x09 ∷ []) (Insert 0x09)
+    ∷ []
+
 -- Right and Left with Alt, of xterm, tmux and screen; of terminals that send an ESC for Alt
 abbrev step_keys : List Row
 step_keys =
@@ -222,9 +231,9 @@ selecting_rows = shifted_keys ++ (shifted_rxvt_keys ++ (shifted_st_keys ++ shift
 abbrev pub move_rows : List Row
 move_rows = row_keys ++ (application_keys ++ (rxvt_keys ++ (selecting_rows ++ (word_keys ++ (text_end_keys ++ (step_keys ++ shifted_step_keys))))))
 
--- the rows whose keys erase, and the digits
+-- the rows whose keys erase or insert
 abbrev pub typing_rows : List Row
-typing_rows = delete_keys ++ (delete_word_keys ++ (erase_word_keys ++ keypad_digits))
+typing_rows = delete_keys ++ (delete_word_keys ++ (erase_word_keys ++ (told_keys ++ keypad_digits)))
 
 -- the rows of the function keys
 abbrev pub function_rows : List Row

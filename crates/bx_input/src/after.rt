@@ -1,5 +1,5 @@
-//! What the waiting bytes and one more are, outside a paste, by `specs/Known.antt`; `after_csi.rt` has those behind CSI. Each
-//! comment names the keys of its function's arms, in order.
+//! What the waiting bytes and one more are, outside a paste, by `specs/Known.antt`. `after_csi.rt` has those behind CSI, and
+//! `after_told.rt` those behind CSI 27;. Each comment names the keys of its function's arms, in order.
 
 ghost use Rattle.std.specs.Prelude.{◌≡◌, ◌≢◌, Bool, ◌∷◌, [], ◌++◌, Some, None, IfSome};
 ghost use Rattle.bx_bytes.specs.declared.fate.Fate.TheVariants as fate_is;
@@ -7,13 +7,19 @@ ghost use Rattle.bx_input.specs.Known.{becomes_of, fate};
 ghost use Rattle.bx_input.specs.Models.{begun, BeginsByEscape, Tells};
 
 use crate::after_csi::{
-    after_alternate, after_bracket, after_code_forty_seven, after_code_four,
+    after_alternate, after_bracket, after_controlled, after_csi, after_eight, after_eighteen,
+    after_eleven, after_escape_csi, after_five, after_fourteen, after_one, after_one_and,
+    after_seven, after_shift_alternate, after_shift_controlled, after_shifted, after_six,
+    after_thirteen, after_three, after_three_and, after_three_controlled, after_twelve,
+    after_twenty, after_twenty_five, after_twenty_one, after_twenty_seven, after_two,
+    after_two_hundred,
+};
+use crate::after_told::{
+    after_code_forty_seven, after_code_four, after_code_nine, after_code_one, after_code_thirteen,
     after_code_thirty_nine, after_code_three, after_control_code, after_control_code_and,
-    after_controlled, after_csi, after_eight, after_eighteen, after_eleven, after_escape_csi,
-    after_five, after_fourteen, after_one, after_one_and, after_seven, after_shift_alternate,
-    after_shift_controlled, after_shifted, after_six, after_thirteen, after_three, after_three_and,
-    after_three_controlled, after_twelve, after_twenty, after_twenty_five, after_twenty_one,
-    after_twenty_seven, after_twenty_seven_and, after_two, after_two_hundred,
+    after_shift_code, after_shift_code_and, after_shift_code_one, after_shift_code_thirteen,
+    after_shift_control_code, after_shift_control_code_and, after_shift_control_code_one,
+    after_shift_control_code_thirteen, after_twenty_seven_and,
 };
 use crate::beginning::Beginning;
 
@@ -93,6 +99,17 @@ pub fn sequence_after(erases_by_delete: bool, waiting: Beginning, byte: u8) -> A
         Beginning::CodeThirtyNine => after_code_thirty_nine(byte),
         Beginning::CodeFour => after_code_four(byte),
         Beginning::CodeFortySeven => after_code_forty_seven(byte),
+        Beginning::ShiftCode => after_shift_code(byte),
+        Beginning::ShiftCodeAnd => after_shift_code_and(byte),
+        Beginning::ShiftCodeOne => after_shift_code_one(byte),
+        Beginning::ShiftCodeThirteen => after_shift_code_thirteen(byte),
+        Beginning::CodeOne => after_code_one(byte),
+        Beginning::CodeThirteen => after_code_thirteen(byte),
+        Beginning::CodeNine => after_code_nine(byte),
+        Beginning::ShiftControlCode => after_shift_control_code(byte),
+        Beginning::ShiftControlCodeAnd => after_shift_control_code_and(byte),
+        Beginning::ShiftControlCodeOne => after_shift_control_code_one(byte),
+        Beginning::ShiftControlCodeThirteen => after_shift_control_code_thirteen(byte),
         Beginning::TwentyFive => after_twenty_five(byte),
         Beginning::ShiftAlternate => after_shift_alternate(byte),
         Beginning::SingleShiftOne => after_single_shift_one(byte),

@@ -80,6 +80,28 @@ pub enum Beginning {
     CodeFour,
     /// CSI 27;5;47
     CodeFortySeven,
+    /// CSI 27;2
+    ShiftCode,
+    /// CSI 27;2;
+    ShiftCodeAnd,
+    /// CSI 27;2;1
+    ShiftCodeOne,
+    /// CSI 27;2;13
+    ShiftCodeThirteen,
+    /// CSI 27;5;1
+    CodeOne,
+    /// CSI 27;5;13
+    CodeThirteen,
+    /// CSI 27;5;9
+    CodeNine,
+    /// CSI 27;6
+    ShiftControlCode,
+    /// CSI 27;6;
+    ShiftControlCodeAnd,
+    /// CSI 27;6;1
+    ShiftControlCodeOne,
+    /// CSI 27;6;13
+    ShiftControlCodeThirteen,
     /// CSI 25
     TwentyFive,
     /// CSI 1;4
@@ -135,6 +157,17 @@ impl Beginning {
             Beginning::CodeThirtyNine => b"\x1b[27;5;39",
             Beginning::CodeFour => b"\x1b[27;5;4",
             Beginning::CodeFortySeven => b"\x1b[27;5;47",
+            Beginning::ShiftCode => b"\x1b[27;2",
+            Beginning::ShiftCodeAnd => b"\x1b[27;2;",
+            Beginning::ShiftCodeOne => b"\x1b[27;2;1",
+            Beginning::ShiftCodeThirteen => b"\x1b[27;2;13",
+            Beginning::CodeOne => b"\x1b[27;5;1",
+            Beginning::CodeThirteen => b"\x1b[27;5;13",
+            Beginning::CodeNine => b"\x1b[27;5;9",
+            Beginning::ShiftControlCode => b"\x1b[27;6",
+            Beginning::ShiftControlCodeAnd => b"\x1b[27;6;",
+            Beginning::ShiftControlCodeOne => b"\x1b[27;6;1",
+            Beginning::ShiftControlCodeThirteen => b"\x1b[27;6;13",
             Beginning::TwentyFive => b"\x1b[25",
             Beginning::ShiftAlternate => b"\x1b[1;4",
             Beginning::SingleShiftOne => b"\x1bO1",

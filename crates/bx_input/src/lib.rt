@@ -13,6 +13,7 @@
 
 mod after;
 mod after_csi;
+mod after_told;
 mod beginning;
 mod control_string;
 mod filter;

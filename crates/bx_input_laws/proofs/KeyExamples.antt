@@ -165,6 +165,11 @@ no_function_keys = refl
 pub nothing_selected : filtered (codes "\u{1b}[1;6A\u{1b}[1;2P\u{1b}[e\u{1b}[7@\u{1b}[5$") ≡ codes "\u{1b}[1;6A\u{1b}[1;2P\u{1b}[e\u{1b}[7@\u{1b}[5$"
 nothing_selected = refl
 
+-- keys that a terminal tells with their modifiers
+pub told_keys : keys (codes "\u{1b}[27;2;13~\u{1b}[27;5;13~\u{1b}[27;6;13~\u{1b}[27;5;9~\u{1b}[27;5;39~\u{1b}[27;5;47~")
+    ≡ NewLine ∷ NewLine ∷ NewLine ∷ Insert 0x09 ∷ Find ∷ Quit ∷ []
+told_keys = refl
+
 -- Fill follows a size of the window
 pub sizes_fill : filtered (codes "\u{1b}[8;10;20t\u{1b}[8;010;020t") ≡ codes "\u{1b}[8;10;20t\u{1b}[102~\u{1b}[8;010;020t\u{1b}[102~"
 sizes_fill = refl

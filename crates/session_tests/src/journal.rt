@@ -1,6 +1,6 @@
 //! A journal's file that cannot be opened or written.
 
-use bx_command::{JournalFile, JournalNotes};
+use bx_command::{JournalFile, JournalNotes, JournalSyncs};
 use std::io::Write;
 use std::path::PathBuf;
 use std::test::Fail;
@@ -27,7 +27,7 @@ fn is_kept(journal: &mut JournalFile<'_>, bytes: &[u8]) -> bool {
 fn a_journal_is_opened_again_at_each_write(rt: HostRuntime) -> Result<(), Fail> {
     let folder = path_of(&rt, "journal")?;
     let path = folder.join(rt.alloc(), "keys")?;
-    let mut journal = JournalFile::open(rt, Some(path.as_str()), NOTES);
+    let mut journal = JournalFile::open(rt, Some(path.as_str()), NOTES, JournalSyncs::EachSecond);
     let before = [is_kept(&mut journal, b"a"), is_kept(&mut journal, b"b")];
     fs::create_dir(&rt, folder.as_path())?;
     let after = [is_kept(&mut journal, b"c"), is_kept(&mut journal, b"d")];
@@ -40,7 +40,7 @@ fn a_journal_is_opened_again_at_each_write(rt: HostRuntime) -> Result<(), Fail> 
 
 #[test]
 fn a_disk_without_room_takes_no_journal(rt: HostRuntime) {
-    let mut journal = JournalFile::open(rt, Some("/dev/full"), NOTES);
+    let mut journal = JournalFile::open(rt, Some("/dev/full"), NOTES, JournalSyncs::EachSecond);
     assert!(rt; !is_kept(&mut journal, b"a"));
     assert!(rt; !is_kept(&mut journal, b"b"));
 }
