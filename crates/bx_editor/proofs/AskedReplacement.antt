@@ -1,10 +1,10 @@
 -- Whether the replacement is asked for.
-use Rattle.std.proofs.Common.{◌≡◌, ◌∙◌, Bool, true, false, length, refl, ap, sym}
-use Rattle.std.specs.Prelude.{◌==◌, not, None, if◌then◌else◌}
+use Rattle.std.proofs.Common.{◌≡◌, ◌∙◌, ℕ, Bool, true, false, length, refl, ap, sym}
+use Rattle.std.specs.Prelude.{◌==◌, not, None, Some, if◌then◌else◌}
 use Rattle.bx_ucd.specs.Data.{Data}
 use Rattle.bx_editor.specs.declared.search_state.SearchPurpose.TheVariants.{Replace}
 use Rattle.bx_editor.specs.declared.matches.Landing.{Landing}
-use Rattle.bx_editor.specs.declared.search_state.SearchState.TheVariants.{Typed}
+use Rattle.bx_editor.specs.declared.search_state.SearchState.TheVariants.{Typed, WithBegun}
 use Rattle.bx_editor.specs.Editor.{Editor}
 use Rattle.bx_editor.specs.Replacing.{after_asking_replacement, asked_at}
 use Rattle.bx_editor.specs.Search.{landed, landing_from, nothing_sought, sought}
@@ -36,3 +36,9 @@ module _ (d : Data) (e : Editor) where
       → record (landed aimed landing) { search_state = Typed } ≡ after_asking_replacement d e
   asked-nowhere landing some is none =
       ap (λ o. asked_at o (landed aimed landing)) (sym none) ∙ asked-there landing some is
+
+  pub asked-somewhere : (landing : Landing) (place : ℕ) → (length (sought d aimed) == 0) ≡ false → landing ≡ landing_from d e.place aimed
+      → landing.place ≡ Some place
+      → record (landed aimed landing) { search_state = WithBegun; count = 0; input_cursor = length e.replacement } ≡ after_asking_replacement d e
+  asked-somewhere landing place some is there =
+      ap (λ o. asked_at o (landed aimed landing)) (sym there) ∙ asked-there landing some is

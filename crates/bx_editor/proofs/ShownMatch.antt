@@ -20,8 +20,8 @@ use Rattle.bx_editor.specs.declared.search_state.SearchPurpose.{SearchPurpose}
 use Rattle.bx_editor.specs.declared.search_state.SearchState.{SearchState}
 use Rattle.bx_editor.specs.declared.search_state.SearchState.TheVariants.{Off, Begun, Typed, WithBegun, WithTyped, Replacing}
 use Rattle.bx_editor.specs.Functions.{EditorState}
-use Rattle.bx_editor.specs.Origin.{BeganAt, IsAsked, IsAtMatch, StandsAt, asks_replacement}
-use Rattle.bx_editor.specs.Search.{reading}
+use Rattle.bx_editor.specs.Origin.{BeganAt, IsAsked, IsAtMatch, StandsAt, asks_replacement, is_queried}
+use Rattle.bx_editor.specs.Search.{as_typed, reading}
 use Rattle.bx_editor.proofs.MatchSpans.{no-more-than-bytes}
 
 -- ---- a match
@@ -128,6 +128,25 @@ module _ (d : Data) (purpose : SearchPurpose) (query text : List ℕ) where
   asked WithTyped at count is h = h
   asked Replacing at count is h = absurd (cc)
 
+  -- the cursor moved in it, or in the query
+  pub asked-moved : (search_state : SearchState) (at count : ℕ) → asks_replacement search_state ≡ true → IsAsked d purpose query count
+      → StandsAt d purpose query text (as_typed search_state) at count
+  asked-moved Off at count is h = absurd (cc)
+  asked-moved Begun at count is h = absurd (cc)
+  asked-moved Typed at count is h = absurd (cc)
+  asked-moved WithBegun at count is h = h
+  asked-moved WithTyped at count is h = h
+  asked-moved Replacing at count is h = absurd (cc)
+
+  pub queried-moved : (search_state : SearchState) (at count : ℕ) → is_queried search_state ≡ true
+      → StandsAt d purpose query text (as_typed search_state) at count
+  queried-moved Off at count is = absurd (cc)
+  queried-moved Begun at count is = tt
+  queried-moved Typed at count is = tt
+  queried-moved WithBegun at count is = absurd (cc)
+  queried-moved WithTyped at count is = absurd (cc)
+  queried-moved Replacing at count is = absurd (cc)
+
   -- the first match is shown
   pub shown : (at count x : ℕ) → IsUtf8 text → length text ≤ largest_text → IsAsked d purpose query count
       → Some at ≡ first_from d (reading purpose) query-letters text x → IsAtMatch d purpose query text at count
@@ -142,3 +161,12 @@ asked-began d text Typed origin is h = absurd (cc)
 asked-began d text WithBegun origin is h = h
 asked-began d text WithTyped origin is h = h
 asked-began d text Replacing origin is h = absurd (cc)
+
+pub began-moved : (d : Data) (text : List ℕ) (search_state : SearchState) (origin : ℕ) → BeganAt d text search_state origin
+    → BeganAt d text (as_typed search_state) origin
+began-moved d text Off origin h = h
+began-moved d text Begun origin h = h
+began-moved d text Typed origin h = h
+began-moved d text WithBegun origin h = h
+began-moved d text WithTyped origin h = h
+began-moved d text Replacing origin h = h

@@ -1,6 +1,6 @@
 -- The status row: its characters, and its place in a grid.
 use Rattle.std.proofs.Common.{◌≡◌, ℕ, ◌+◌, ◌*◌, ◌%◌, ◌^◌, ◌<◌, ◌≤◌, Bool, true, nat_le, ◌&&◌, false, List, [], ◌∷◌, ◌++◌, length, take}
-use Rattle.std.proofs.Common.{decimal, Option, Some, None, refl, ap, ap₂, ◌∙◌, arith}
+use Rattle.std.proofs.Common.{decimal, Option, Some, None, refl, ap, ap₂, sym, ◌∙◌, arith}
 use Rattle.std.specs.Prelude.{codes, if◌then◌else◌, option_map}
 use Rattle.std.proofs.lemmas.Bool.Decides.{nat_tests}
 use Rattle.std.proofs.lemmas.Fmt.{decimal_by_steps}
@@ -18,12 +18,16 @@ use Rattle.bx_grid.specs.Grid.{GridState}
 use Rattle.bx_rows.specs.RowPicture.{Glyph}
 use Rattle.bx_editor.specs.declared.questions.answers.Prompt.{Prompt}
 use Rattle.bx_editor.specs.declared.questions.answers.Prompt.TheVariants as prompts
+use Rattle.bx_document.specs.InputLine.{column_shown, glyphs_or, input_line, line_glyphs}
 use Rattle.bx_document.specs.Shown.{with_rows}
 use Rattle.bx_editor.specs.declared.message.Message.{Message}
 use Rattle.bx_editor.specs.declared.message.Message.TheVariants.{Saved, SaveFailed, TextFull, NothingToUndo, NothingToRedo, Unsaved, Direction, MarkSet, MarkOff}
 use Rattle.bx_editor.specs.declared.message.Message.TheVariants.{Copied, LineCopied, Cut, NothingToCopy, NothingToPut, ViewOnly, FromStart, FromEnd, NotFound, NoLetter, Help}
 use Rattle.bx_editor.specs.declared.message.Message.TheVariants.{MoreHelp, MoreThanOneLine, NoSuchCharacter, Pasting, Replaced, Told, TooLongForClipboard, Notice}
-use Rattle.bx_editor.specs.Status.{failed_text, message_text, name_end, name_glyphs, notice_text, prompt_text, shown_text, status_line}
+use Rattle.bx_editor.specs.Editor.{Editor}
+use Rattle.bx_editor.specs.InputLines.{input_line_of}
+use Rattle.bx_editor.specs.Status.{IsDrawn, failed_text, left_side, letter_glyphs, message_text, name_end, name_glyphs, notice_text, prompt_text, shown_text, status_line}
+use Rattle.bx_editor.specs.Status.{typed_column, typed_glyphs}
 
 -- ---- all its characters are from SPACE to TILDE
 
@@ -133,6 +137,28 @@ pub end-is : (d : Data) (rtl : Bool) (name : Option (List ℕ)) (drawn : Option 
     → option_map (λ glyphs. (glyphs, rtl)) drawn ≡ name_end d rtl name
 end-is d rtl None drawn is = ap (option_map (λ glyphs. (glyphs, rtl))) is
 end-is d rtl (Some name) drawn is = ap (option_map (λ glyphs. (glyphs, rtl))) is
+
+-- the glyphs that were drawn are the name's
+pub drawn-is : (d : Data) (name : Option (List ℕ)) (drawn : Option (List Glyph)) → drawn ≡ option_map (name_glyphs d) name → IsDrawn d name drawn
+drawn-is d name None is = tt
+drawn-is d name (Some glyphs) is = sym is
+
+-- ---- the left side, by the input line that the prompt shows
+
+module _ (d : Data) (e : Editor) (text : List ℕ) where
+  pub left-alone : None ≡ input_line_of e → letter_glyphs text ≡ left_side d e text
+  left-alone none = sym (append-nil (letter_glyphs text)) ∙ ap (λ o. letter_glyphs text ++ typed_glyphs d e text o) none
+
+  pub left-with : (line : List ℕ) → Some line ≡ input_line_of e
+      → letter_glyphs text ++ glyphs_or (line_glyphs d line) (input_line d e.width (length text) line e.input_cursor) ≡ left_side d e text
+  left-with line is = ap (λ o. letter_glyphs text ++ typed_glyphs d e text o) is
+
+  pub column-alone : None ≡ input_line_of e → None ≡ typed_column d e text (input_line_of e)
+  column-alone none = ap (typed_column d e text) none
+
+  pub column-with : (line : List ℕ) → Some line ≡ input_line_of e
+      → column_shown (input_line d e.width (length text) line e.input_cursor) ≡ typed_column d e text (input_line_of e)
+  column-with line is = ap (typed_column d e text) is
 
 -- ---- the columns in a grid
 

@@ -1,5 +1,5 @@
 -- The held text put into an input line. `d` is Unicode's data, `e` the editor, `c` a character.
-use Rattle.std.specs.Prelude.{ℕ, List, [], ◌∷◌, fold, Some, None}
+use Rattle.std.specs.Prelude.{ℕ, ◌==◌, not, Bool, List, [], ◌∷◌, fold, Some, None}
 use Rattle.bx_ucd.specs.Data.{Data}
 use Rattle.bx_editor.specs.declared.message.Message.TheVariants.{NothingToPut}
 use Rattle.bx_editor.specs.declared.questions.answers.Prompt.{Prompt}
@@ -28,6 +28,24 @@ typed_in d prompt search_state e c = after_answer_letter d None prompt e c
 -- as a key of its own
 abbrev pub typed_alone : Data → Editor → ℕ → Editor
 typed_alone d e c = typed_in d e.prompt e.search_state (cleared e) c
+
+-- a character other than a line end
+abbrev pub is_in_line : ℕ → Bool
+is_in_line c = not (c == 0xA)
+
+-- what is typed at a prompt, with all that a typed character settles, as in another editor
+abbrev pub with_typed_of : Editor → Editor → Editor
+with_typed_of was e = record e {
+  query = was.query;
+  replacement = was.replacement;
+  answer = was.answer;
+  input_cursor = was.input_cursor;
+  place = was.place;
+  search_state = was.search_state;
+  message = was.message;
+  quit_before = was.quit_before;
+  typing = was.typing;
+}
 
 -- characters are typed one after the other; if there are none, that is told
 abbrev pub typed_one_by_one : Data → Editor → List ℕ → Editor

@@ -81,6 +81,7 @@ impl<D: BidiData + Drop> Editor<D> {
 
     /// Makes a line the answer, and clears the message.
     fn take_answer(&mut self, line: InputLine)
+        requires asked { takes_line self.old.editor.prompt ≡ true }
         requires few { length (chars line.text) ≤ limit_of self.old.editor.prompt }
         requires place { IsTextPlace (D.data self.old.tables) line.text line.cursor }
         ensures { self.new ≡ record self.old { editor = with_answer (cleared self.old.editor) line } }

@@ -1,11 +1,11 @@
 //! Edits of an input line: what is typed at a prompt, a small text of one line with a cursor of its own.
-ghost use Rattle.std.specs.Prelude.{◌≡◌, ◌≤◌, ◌==◌, not, [], true, IfOk, OnOk, chars, length, string_bytes, encode_utf8};
+ghost use Rattle.std.specs.Prelude.{◌≡◌, ◌≤◌, ◌==◌, not, [], true, IfOk, IsCharBoundary, OnOk, chars, length, string_bytes, encode_utf8, take};
 ghost use Rattle.bx_text.specs.Changes.{IsRange};
 ghost use Rattle.bx_view.specs.Places.{IsTextPlace};
 ghost use Rattle.bx_editor.specs.InputLines.{erased_part, erases_nothing, first_line, line_edited, line_lengthened, line_shortened};
 
 use crate::questions::{char_count, shortened};
-use bx_common::{OutOfMemory, Range};
+use bx_common::{OutOfMemory, Range, first_char};
 use bx_document::Document;
 use bx_ucd::BidiData;
 use bx_view::{Logical, Move};
@@ -87,7 +87,8 @@ impl InputLine {
         // a character has at most four bytes
         let mut buffer = [0; 4];
         let new = c.encode_utf8(&mut buffer);
-        self.exchange(document, self.cursor, self.cursor, new)
+        self.exchange(document, self.cursor, self.cursor, new)?;
+        Ok(())
     }
 
     /// The part of the line that an erasure removes.
@@ -146,15 +147,18 @@ impl InputLine {
 }
 
 /// The length of the first line of a text, up to a tab.
-fn first_line_len<D: BidiData + Drop>(document: &Document<D>, text: &str) -> usize {
-    let mut len = 0;
-    for c in text.chars() {
+fn first_line_len<D: BidiData + Drop>(document: &Document<D>, text: &str) -> usize
+    ensures line { chars (take result text.now) ≡ first_line (D.data document.now.tables) text.now }
+    ensures boundary { IsCharBoundary text.now result }
+{
+    let mut rest = text;
+    while let Some((c, behind)) = first_char(rest) {
         if c == '\n' || c == '\t' || document.separates(c) {
-            return len;
+            return text.len() - rest.len();
         }
-        len += c.len_utf8();
+        rest = behind;
     }
-    len
+    text.len()
 }
 
 /// A copy of the first line of a text, up to a tab: what an input line takes of it.

@@ -169,6 +169,8 @@ impl<D: BidiData + Drop> Editor<D> {
         ensures tables { self.new.tables ≡ self.old.tables }
         ensures err { OnErr result (self.new ≡ self.old) }
         ensures edits { OnErr result (is_edit_or_move key ≡ true) }
+        ensures saved { self.old.editor.prompt ≡ Prompt.File → answer_of key ≡ Answer.Letter 0xA → IsOk result }
+        ensures decided { self.old.editor.prompt ≡ Prompt.Overwrite → IsOk result }
     {
         if self.refuses_replacing(key) {
             self.tell(Message::ViewOnly);
@@ -200,6 +202,8 @@ impl<D: BidiData + Drop> Editor<D> {
         ensures tables { self.new.tables ≡ self.old.tables }
         ensures err { OnErr result (self.new ≡ self.old) }
         ensures edits { OnErr result (is_edit_or_move key ≡ true) }
+        ensures saved { self.old.editor.prompt ≡ Prompt.File → answer_of key ≡ Answer.Letter 0xA → IsOk result }
+        ensures decided { self.old.editor.prompt ≡ Prompt.Overwrite → IsOk result }
     {
         match (self.prompt, self.cursor.search_state) {
             (Prompt::Line | Prompt::Code | Prompt::File, _) => self.press_in_question(key, fault),
@@ -208,12 +212,14 @@ impl<D: BidiData + Drop> Editor<D> {
                 self.press_for_overwriting(key, fault);
                 Ok(())
             }
-            (_, SearchState::Off) => self.press(key, fault),
-            (_, SearchState::Begun | SearchState::Typed) => self.press_in_search(key, fault),
-            (_, SearchState::WithBegun | SearchState::WithTyped) => {
+            (Prompt::Off, SearchState::Off) => self.press(key, fault),
+            (Prompt::Off, SearchState::Begun | SearchState::Typed) => {
+                self.press_in_search(key, fault)
+            }
+            (Prompt::Off, SearchState::WithBegun | SearchState::WithTyped) => {
                 self.press_for_replacement(key, fault)
             }
-            (_, SearchState::Replacing) => self.press_at_match(key, fault),
+            (Prompt::Off, SearchState::Replacing) => self.press_at_match(key, fault),
         }
     }
 
@@ -291,6 +297,7 @@ impl<D: BidiData + Drop> Editor<D> {
         ensures tables { self.new.tables ≡ self.old.tables }
         ensures err { OnErr result (self.new ≡ self.old) }
         ensures edits { OnErr result (is_edit_or_move key ≡ true) }
+        ensures saved { self.old.editor.prompt ≡ Prompt.File → answer_of key ≡ Answer.Letter 0xA → IsOk result }
     {
         match answer_of(key) {
             Answer::Letter(c) => self.answer_question(c, fault)?,
@@ -361,12 +368,13 @@ impl<D: BidiData + Drop> Editor<D> {
         ensures err { OnErr result (self.new ≡ self.old) }
         ensures edits { OnErr result (is_edit_or_move key ≡ true) }
     {
-        let prompt = self.prompt;
+        let (prompt, search_state) = (self.prompt, self.cursor.search_state);
         self.leave_question();
         match self.press(key, fault) {
             Ok(()) => Ok(()),
             Err(refused) => {
                 self.prompt = prompt;
+                self.cursor.search_state = search_state;
                 Err(refused)
             }
         }

@@ -10,7 +10,6 @@ use crate::editor::Editor;
 use crate::scrolling::Scroll;
 use crate::status::status_line;
 use bx_common::OutOfMemory;
-use bx_document::StatusRow;
 use bx_grid::{Cell, Grid, Picture};
 use bx_ucd::BidiData;
 use bx_view::Position;
@@ -24,6 +23,20 @@ pub(crate) fn text_height(height: u16) -> u16
     ensures inside { result ≤ height }
 {
     if height >= 2 { height - 1 } else { 1 }
+}
+
+/// The cursor's cell: in the last row, at a column of an input line, if there is one; else in the text.
+fn cursor_cell(typed: Option<u16>, height: u16, in_text: Cell) -> Cell
+    ensures typed { IfSome typed (λ column. (result.line ≡ height) × (result.column ≡ column)) }
+    ensures text { typed ≡ None → (result.line ≡ in_text.line) × (result.column ≡ in_text.column) }
+{
+    match typed {
+        Some(column) => Cell {
+            line: height,
+            column,
+        },
+        None => in_text,
+    }
 }
 
 impl<D: BidiData + Drop> Editor<D> {
@@ -52,17 +65,11 @@ impl<D: BidiData + Drop> Editor<D> {
         if height < 2 {
             return Ok(None);
         }
-        let Position {
-            paragraph,
-            unit,
-            is_rtl,
-            ..
-        } = position;
-        let mut line = status_line(alloc, self.past.changed, paragraph, unit)?;
+        let mut line = status_line(alloc, self.past.changed, position.paragraph, position.unit)?;
         self.write_message(&mut line)?;
-        let StatusRow { row, column } = self.draw_status(line, is_rtl)?;
-        page.put_row(height - 1, &row)?;
-        Ok(column)
+        let status = self.draw_status(line, position.is_rtl)?;
+        page.put_row(height - 1, &status.row)?;
+        Ok(status.column)
     }
 
     /// Scrolls from the offset `top` as a key asks for it, then to the cursor, and draws the window, with the region, or the match that
@@ -96,16 +103,12 @@ impl<D: BidiData + Drop> Editor<D> {
         let shown = self
             .document
             .show(&mut page, top, self.cursor.place, count, region)?;
-        let cursor = match self.put_status(alloc, &mut page, shown.position)? {
-            Some(column) => Cell {
-                line: height,
-                column,
-            },
-            None => Cell {
-                line: shown.row + 1,
-                column: shown.position.column,
-            },
+        let typed = self.put_status(alloc, &mut page, shown.position)?;
+        let in_text = Cell {
+            line: shown.row + 1,
+            column: shown.position.column,
         };
+        let cursor = cursor_cell(typed, height, in_text);
         Ok((shown.top, Picture::new(page, cursor)))
     }
 }

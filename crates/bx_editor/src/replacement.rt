@@ -33,6 +33,7 @@ impl<D: BidiData + Drop> Editor<D> {
     pub(crate) fn ask_replacement(&mut self) -> Result<(), OutOfMemory>
         requires origin { IsTextPlace (D.data self.old.tables) self.old.editor.content.text self.old.editor.origin }
         requires queried { is_queried self.old.editor.search_state ≡ true }
+        requires prompt { self.old.editor.prompt ≡ Prompt.Off }
         ensures ok { OnOk result (self.new ≡ record self.old {
           editor = after_asking_replacement (D.data self.old.tables) (cleared self.old.editor);
         }) }
@@ -52,7 +53,7 @@ impl<D: BidiData + Drop> Editor<D> {
             Some(_) => {
                 self.cursor.search_state = SearchState::WithBegun;
                 self.count = 0;
-                self.input_cursor = self.replacement.len();
+                self.input_cursor = self.replacement.as_str().len();
             }
             None => self.cursor.search_state = SearchState::Typed,
         }

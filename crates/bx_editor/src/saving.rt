@@ -1,6 +1,7 @@
 //! Saving: where a key stores the text, and what a save leaves.
-ghost use Rattle.std.specs.Prelude.{◌≡◌, ◌&&◌, not, None, Some, length, option_map};
+ghost use Rattle.std.specs.Prelude.{◌≡◌, ◌&&◌, false, not, None, Some, length, option_map};
 ghost use Rattle.bx_editor.specs.Editor.{cleared};
+ghost use Rattle.bx_editor.specs.InputLines.{takes_line};
 ghost use Rattle.bx_editor.specs.Keys.{ends_name, is_save, is_typed, overwrites, saving_of};
 ghost use Rattle.bx_editor.specs.Saving.{after_naming, after_save, after_saving, asking_over, can_save, confirms};
 ghost use Rattle.bx_editor.specs.Saving.{is_name, is_nameless, own_saving, saving_over, saving_under, takes_name, with_answered_name};
@@ -92,7 +93,7 @@ impl<D: BidiData + Drop> Editor<D> {
         ensures { result ≡ self.now.editor.home && is_name self.now.editor.name self.now.editor.answer && not self.now.editor.read_only }
     {
         match &self.name {
-            Some(name) => self.home && !self.read_only && name.as_str() == self.answer.as_str(),
+            Some(name) => self.home && name.as_str() == self.answer.as_str() && !self.read_only,
             None => false,
         }
     }
@@ -199,6 +200,7 @@ impl<D: BidiData + Drop> Editor<D> {
 
     /// Notes the end of a save under the answer; an empty answer saved nothing. Allocates nothing.
     pub(crate) fn name_answered(&mut self, fault: Option<StoreFault>)
+        requires asked { takes_line self.old.editor.prompt ≡ false }
         ensures { self.new ≡ record self.old { editor = after_naming fault (cleared self.old.editor) } }
     {
         if self.answer.is_empty() {

@@ -66,6 +66,7 @@ impl<D: BidiData + Drop> Editor<D> {
     fn end_query(&mut self) -> Result<(), OutOfMemory>
         requires origin { IsTextPlace (D.data self.old.tables) self.old.editor.content.text self.old.editor.origin }
         requires queried { is_queried self.old.editor.search_state ≡ true }
+        requires prompt { self.old.editor.prompt ≡ Prompt.Off }
         ensures ok { OnOk result (self.new ≡ record self.old {
           editor = after_sought_end (D.data self.old.tables) (cleared self.old.editor);
         }) }

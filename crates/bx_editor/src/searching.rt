@@ -1,6 +1,6 @@
 //! The calls by which a search begins, goes on and is given up, and FindNext outside a search. `keys.rt` and `search_keys.rt` say
 //! which key makes which call.
-ghost use Rattle.std.specs.Prelude.{◌≡◌, ◌≤◌, ◌==◌, not, true, chars, length, IfOk, IfSome, OnErr, OnOk};
+ghost use Rattle.std.specs.Prelude.{◌≡◌, ◌≤◌, ◌==◌, if◌then◌else◌, not, true, chars, length, IfOk, IfSome, OnErr, OnOk};
 ghost use Rattle.bx_view.specs.Places.{IsTextPlace};
 ghost use Rattle.bx_editor.specs.declared.questions.answers.Prompt.{Prompt};
 ghost use Rattle.bx_editor.specs.Editor.{cleared};
@@ -30,7 +30,7 @@ impl<D: BidiData + Drop> Editor<D> {
         self.origin = self.cursor.place;
         self.cursor.search_state = SearchState::Begun;
         self.purpose = purpose;
-        self.input_cursor = self.query.len();
+        self.input_cursor = self.query.as_str().len();
         self.reset_after_key();
     }
 
@@ -74,6 +74,15 @@ impl<D: BidiData + Drop> Editor<D> {
         self.cursor.search_state = SearchState::Typed;
     }
 
+    /// Where a query is sought from: from the place on if it grew at its end, else from where the search began.
+    fn search_start(&self, grows: bool) -> usize
+        requires origin { IsTextPlace (D.data self.now.tables) self.now.editor.content.text self.now.editor.origin }
+        ensures start { result ≡ (if grows then self.now.editor.place else self.now.editor.origin) }
+        ensures text_place { IsTextPlace (D.data self.now.tables) self.now.editor.content.text result }
+    {
+        if grows { self.cursor.place } else { self.origin }
+    }
+
     /// Makes a line the query, and seeks it: from the place on, or, if it did not grow at its end, from where the search began.
     fn search_with(&mut self, line: InputLine, grows: bool) -> Result<(), OutOfMemory>
         requires origin { IsTextPlace (D.data self.old.tables) self.old.editor.content.text self.old.editor.origin }
@@ -85,11 +94,7 @@ impl<D: BidiData + Drop> Editor<D> {
         }) }
         ensures err { OnErr result (self.new ≡ self.old) }
     {
-        let from = if grows {
-            self.cursor.place
-        } else {
-            self.origin
-        };
+        let from = self.search_start(grows);
         let landing = forward(
             &mut self.document,
             reading_of(self.purpose),
@@ -207,10 +212,10 @@ impl<D: BidiData + Drop> Editor<D> {
         requires place { IfSome landing.place (IsTextPlace (D.data self.old.tables) self.old.editor.content.text) }
         ensures { self.new ≡ record self.old { editor = landed (sought_alone (unselected (cleared self.old.editor))) landing } }
     {
-        self.origin = self.cursor.place;
-        self.settle_at(landing);
         self.cursor.search_state = SearchState::Off;
         self.purpose = SearchPurpose::Find;
+        self.origin = self.cursor.place;
+        self.settle_at(landing);
         self.unselect();
     }
 

@@ -91,6 +91,16 @@ fn prompt_text(prompt: Prompt) -> &'static str
     }
 }
 
+/// What stands at the row's end, in a session with a name: the name's glyphs, and a direction.
+fn row_end(drawn: &Option<DrawnName>, is_rtl: bool) -> Option<RowEnd<'_>>
+    ensures { option_map (λ e. (e.name.now, e.is_rtl)) result ≡ option_map (λ glyphs. (glyphs, is_rtl)) drawn.now }
+{
+    match drawn {
+        None => None,
+        Some(name) => Some(RowEnd { name, is_rtl }),
+    }
+}
+
 impl<D: BidiData + Drop> Editor<D> {
     /// The words of the prompt of a question, or without one of a search.
     fn prompt_words(&self) -> &'static str
@@ -182,10 +192,7 @@ impl<D: BidiData + Drop> Editor<D> {
         ensures wide { IfOk result (λ r. r.row.width ≡ self.old.editor.width) }
     {
         let drawn = self.take_drawn()?;
-        let end = match &drawn {
-            None => None,
-            Some(name) => Some(RowEnd { name, is_rtl }),
-        };
+        let end = row_end(&drawn, is_rtl);
         let row = self.draw_prompt(text, end);
         self.drawn_name = drawn;
         row

@@ -1,6 +1,6 @@
 -- The session after a byte and after a told size, from the contracts of the calls within.
 use Rattle.std.proofs.Common.{◌≡◌, ℕ, Bool, true, false, List, [], drop, Option, Some, None, Result, Ok, Err, IsUtf8, refl, sym, ap, subst, ◌∙◌, if◌then◌else◌}
-use Rattle.std.specs.Prelude.{not, ◌||◌, ◌&&◌, is_some, IfErr, OnOk, OnErr}
+use Rattle.std.specs.Prelude.{not, ◌||◌, ◌&&◌, is_ok, is_some, IfErr, IsOk, OnOk, OnErr}
 use Rattle.std.specs.Result.{result_err}
 use Rattle.bx_common.specs.Characters.{is_side}
 use Rattle.bx_common.specs.declared.base.Base.{Base}
@@ -99,6 +99,15 @@ pub stored_text : (saves : Bool) (fault : Option StoreFault) (text text' : List 
     → StoreAfter saves fault text old new → StoreAfter saves fault text' old new
 stored_text true fault text text' old new same h = subst (λ (t : List ℕ). SaveEnds fault t old new) (same refl) h
 stored_text false fault text text' old new same h = h
+
+-- a key that stores the text is not refused
+pub press_stored : {A E : Type 0} (result : Result A E) (stores stored : Bool) (fault : Option StoreFault) (text text' : List ℕ) (old new : StoreState)
+    → stores ≡ stored → (stored ≡ true → text ≡ text') → (stores ≡ true → IsOk result) → StoreAfter stores fault text old new
+    → StoreAfter (is_ok result && stored) fault text' old new
+press_stored (Ok value) stores stored fault text text' old new is same ok h =
+    stored_text stored fault text text' old new same (subst (λ s. StoreAfter s fault text old new) is h)
+press_stored (Err e) true stored fault text text' old new is same ok h = absurd (cc (ok refl))
+press_stored (Err e) false stored fault text text' old new is same ok h = h
 
 -- ---- a byte
 

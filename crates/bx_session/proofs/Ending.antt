@@ -1,6 +1,6 @@
 -- A key that ends a paste: the same key after the end of the paste; and the keys that a replay passes over.
 use Rattle.std.proofs.Common.{◌≡◌, ℕ, Bool, true, false, not, ◌&&◌, ◌||◌, List, Option, Some, None, refl, sym, ap, subst, ◌∙◌, if◌then◌else◌}
-use Rattle.std.specs.Prelude.{◌≢◌, is_some}
+use Rattle.std.specs.Prelude.{◌≢◌, is_some, Result, Ok, Err, OnErr}
 use Rattle.bx_keys.specs.declared.key.Key.{Key}
 use Rattle.bx_keys.specs.declared.key.Key.TheVariants.{Save, Quit}
 use Rattle.bx_store.specs.declared.store.StoreFault.{StoreFault}
@@ -20,7 +20,7 @@ use Rattle.bx_editor.specs.Saving.{Saving, can_save, is_empty_name, own_saving}
 use Rattle.bx_editor.specs.Scrolling.{scroll_of}
 use Rattle.bx_editor.proofs.EffectsKept as kept
 use Rattle.bx_editor.proofs.Pasted.{ended-none}
-use Rattle.bx_session.specs.Session.{Session, after_spending, key_of_byte, known_after, ready_to_store, session_after_key, with_painting_owed}
+use Rattle.bx_session.specs.Session.{Session, after_spending, key_of_byte, known_after, ready_to_store, session_after_key, text_to_save, with_painting_owed}
 use Rattle.bx_session.specs.Parts.{is_quit}
 use Rattle.bx_session.specs.Feeding.{SessionState}
 use Rattle.bx_session.specs.Replaying.{after_passed, after_replay, after_replayed_key, session_after_replayed, session_moved_by}
@@ -131,7 +131,7 @@ unpasted : (pasted : Bool) (saving : Option Saving) → is_some (if pasted && fa
 unpasted true saving = refl
 unpasted false saving = refl
 
-save_stores : (e : Editor) → stores e Save ≡ saves_at (place_of e) e.prompt
+pub save_stores : (e : Editor) → stores e Save ≡ saves_at (place_of e) e.prompt
 save_stores e = unpasted (is_some e.pasted) (saving_by e e.prompt Save answers.Ends) ∙ save_at e e.prompt
 
 save_stores_ahead : (d : Data) (e : Editor) → stores (paste_ended d e) Save ≡ stores e Save
@@ -183,6 +183,29 @@ pub refused_is : {D : Type 0} (ucd : D → Data) (old mid new : SessionState D) 
     → (new ≡ old) × (may_refuse old.session.editor key ≡ true)
 refused_is {D} ucd old mid new Save is alone may same = absurd (refused_at mid.session.editor.pasted (alone refl) may)
 refused_is {D} ucd old mid new key is alone may same = (same ∙ is, subst (λ (x : SessionState D). may_refuse x.session.editor key ≡ true) is may)
+
+-- a key that stores the text finds no paste under way, once it is ready
+save_or : (e : Editor) (key : Key) (save : Bool) → is_save key ≡ save → (is_save key ≡ true → e.pasted ≡ None) → stores e key ≡ true → e.pasted ≡ None
+save_or e key true is ready h = ready is
+save_or e key false is ready h = stores_alone e key is h
+
+pub stores_ready : (e : Editor) (key : Key) → (is_save key ≡ true → e.pasted ≡ None) → stores e key ≡ true → e.pasted ≡ None
+stores_ready e key ready h = save_or e key (is_save key) refl ready h
+
+pub same_stores : {D : Type 0} (ucd : D → Data) (old mid : SessionState D) (key : Key) → IsReady ucd old mid key
+    → stores mid.session.editor key ≡ stores old.session.editor key
+same_stores {D} ucd old mid key is =
+    ap (λ (x : SessionState D). stores x.session.editor key) is ∙ ready_stores (ucd old.tables) old.session.editor key
+
+pub same_text : {D : Type 0} (ucd : D → Data) (old mid : SessionState D) (key : Key) → IsReady ucd old mid key → stores old.session.editor key ≡ true
+    → mid.session.editor.content.text ≡ text_to_save (ucd old.tables) old.session.editor
+same_text {D} ucd old mid key is h =
+    ap (λ (x : SessionState D). x.session.editor.content.text) is ∙ ready_text (ucd old.tables) old.session.editor key h
+
+-- what an error tells, together with another fact of it
+pub both_refused : {A E P Q R : Type 0} (result : Result A E) → (P → Q → R) → OnErr result P → OnErr result Q → OnErr result R
+both_refused (Ok value) f p q = tt
+both_refused (Err e) f p q = f p q
 
 -- ---- what a replay passes over
 
@@ -245,7 +268,7 @@ quit_passed {D} ucd old mid new is passed =
     ∙ ap (λ (s : Session). record old { session = s }) (quit_session d e.prompt e.search_state old.session)
 
 -- a key that stored the text, and any other
-stored_session : (d : Data) (prompt : Prompt) (search_state : SearchState) (s : Session) (key : Key) → stores s.editor key ≡ true
+pub stored_session : (d : Data) (prompt : Prompt) (search_state : SearchState) (s : Session) (key : Key) → stores s.editor key ≡ true
     → session_after_replayed d prompt search_state s key ≡ record s { editor = after_passed prompt key (paste_ended d s.editor) }
 stored_session d prompt search_state s Quit h = let none : false ≡ true = sym (quit_stores_nothing s.editor) ∙ h in absurd (cc none)
 stored_session d prompt search_state s key h =

@@ -63,15 +63,29 @@ use Rattle.bx_session.proofs.KeyKinds.{is_quitting, quit_kind}
 abbrev pub SameSize : Editor → Editor → Type 0
 SameSize e new = (new.height ≡ e.height) × (new.width ≡ e.width)
 
--- the size, the row shown first, and unless the key is Quit, whether the session has ended
+-- the size, the row shown first, what a paste has brought, and unless the key is Quit, whether the session has ended
 record Part : Type 0 where
+  pub height : ℕ
+  pub width : ℕ
+  pub top : ℕ
+  pub pasted : Option (List ℕ)
+  pub ended : Bool
+
+abbrev part : Key → Editor → Part
+part key e = record { height = e.height; width = e.width; top = e.top; pasted = e.pasted; ended = is_quit (Some key) || e.ended }
+
+-- the same without the paste, which some keys begin or end
+record Frame : Type 0 where
   pub height : ℕ
   pub width : ℕ
   pub top : ℕ
   pub ended : Bool
 
-abbrev part : Key → Editor → Part
-part key e = record { height = e.height; width = e.width; top = e.top; ended = is_quit (Some key) || e.ended }
+abbrev frame_of : Part → Frame
+frame_of p = record { height = p.height; width = p.width; top = p.top; ended = p.ended }
+
+abbrev frame : Key → Editor → Frame
+frame key e = frame_of (part key e)
 
 module _ (key : Key) where
   abbrev Keeps : Editor → Editor → Type 0
@@ -338,48 +352,59 @@ module _ (key : Key) where
   any_kept d fault was prompts.File search_state e = question_kept d fault was e (answer_of key)
   any_kept d fault was prompts.Overwrite search_state e = overwrite_kept fault was e (answer_of key)
 
-  -- ---- a paste
-
-  pasting_kept : (e : Editor) → IsKeptPasting (Keeps e)
-  pasting_kept e = record { pasted = λ x pasted message typing h. h; lengthened = λ x pasted soft h. h; unpressed = λ x h. h }
-
-  ended_with_kept : (d : Data) (e : Editor) (pasted : Option (List ℕ)) → Keeps e (ended_with d e pasted)
-  ended_with_kept d e None = refl
-  ended_with_kept d e (Some list) =
-      let left : Editor = without_paste e in kept_if (length list == 0) e _ _ refl (put_in_kept d left list false)
-
-  pub ended_kept : (d : Data) (e : Editor) → Keeps e (paste_ended d e)
-  ended_kept d e = ended_with_kept d e e.pasted
-
   user_kept : (d : Data) (fault : Option StoreFault) (e : Editor) → Keeps e (after_user d fault e key)
   user_kept d fault e =
       kept_if (refuses_replacing e key) e (by d fault (before e) (cleared e) Refuses)
       (after_any d fault (before e) e.prompt e.search_state (cleared e) key) refl
       (any_kept d fault (before e) e.prompt e.search_state (cleared e))
 
-  press_kept : (d : Data) (fault : Option StoreFault) (e : Editor) → Keeps e (after_press d fault e.pasted e key)
-  press_kept d fault e =
-      press-keeps d fault e (Keeps e) key (λ x h. user_kept d fault x ∙ h) (λ x h. ended_kept d x ∙ h)
-      (λ c. pasted-letter-keeps (Keeps e) (pasting_kept e) d e c refl) refl
+  -- ---- a paste
 
-  start_kept : (e : Editor) → Keeps e (after_paste_start e)
-  start_kept e = start-keeps (Keeps e) (pasting_kept e) e refl
+  abbrev Stays : Editor → Editor → Type 0
+  Stays e new = frame key new ≡ frame key e
 
-  end_kept : (d : Data) (e : Editor) → Keeps e (after_paste_end d e)
-  end_kept d e = ended_kept d e
+  stays_if : (g : Bool) (e a b : Editor) → Stays e a → Stays e b → Stays e (if g then a else b)
+  stays_if true e a b x y = x
+  stays_if false e a b x y = y
+
+  pasting_stays : (e : Editor) → IsKeptPasting (Stays e)
+  pasting_stays e = record { pasted = λ x pasted message typing h. h; lengthened = λ x pasted soft h. h; unpressed = λ x h. h }
+
+  ended_with_stays : (d : Data) (e : Editor) (pasted : Option (List ℕ)) → Stays e (ended_with d e pasted)
+  ended_with_stays d e None = refl
+  ended_with_stays d e (Some list) =
+      let left : Editor = without_paste e in stays_if (length list == 0) e _ _ refl (ap frame_of (put_in_kept d left list false))
+
+  pub ended_stays : (d : Data) (e : Editor) → Stays e (paste_ended d e)
+  ended_stays d e = ended_with_stays d e e.pasted
+
+  press_stays : (d : Data) (fault : Option StoreFault) (e : Editor) → Stays e (after_press d fault e.pasted e key)
+  press_stays d fault e =
+      press-keeps d fault e (Stays e) key (λ x h. ap frame_of (user_kept d fault x) ∙ h) (λ x h. ended_stays d x ∙ h)
+      (λ c. pasted-letter-keeps (Stays e) (pasting_stays e) d e c refl) refl
+
+  start_stays : (e : Editor) → Stays e (after_paste_start e)
+  start_stays e = start-keeps (Stays e) (pasting_stays e) e refl
+
+  end_stays : (d : Data) (e : Editor) → Stays e (after_paste_end d e)
+  end_stays d e = ended_stays d e
+
+-- no key that the user presses begins a paste
+pub user_pasted : (d : Data) (fault : Option StoreFault) (e : Editor) (key : Key) → (after_user d fault e key).pasted ≡ e.pasted
+user_pasted d fault e key = ap (λ (p : Part). p.pasted) (user_kept key d fault e)
 
 -- ---- told keys too
 
-same_size : (key : Key) (e new : Editor) → part key new ≡ part key e → SameSize e new
-same_size key e new h = (ap (λ (p : Part). p.height) h, ap (λ (p : Part). p.width) h)
+same_size : (key : Key) (e new : Editor) → frame key new ≡ frame key e → SameSize e new
+same_size key e new h = (ap (λ (p : Frame). p.height) h, ap (λ (p : Frame). p.width) h)
 
 key_size : (d : Data) (fault : Option StoreFault) (e : Editor) (P : Key → Type 0) → ((height width : ℕ) → P (Size height width) → ⊥) → (key : Key) → P key
     → SameSize e (after_key d fault e key)
 key_size d fault e P none =
     each-key d fault e (λ k new. P k → SameSize e new) (λ height width told. absurd (none height width told)) (λ notice told. (refl, refl))
     (λ told. (refl, refl))
-    (λ told. same_size PasteStart e (after_paste_start e) (start_kept PasteStart e), λ told. same_size PasteEnd e (after_paste_end d e) (end_kept PasteEnd d e))
-    (λ k other told. same_size k e (after_press d fault e.pasted e k) (press_kept k d fault e))
+    (λ told. same_size PasteStart e (after_paste_start e) (start_stays PasteStart e), λ told. same_size PasteEnd e (after_paste_end d e) (end_stays PasteEnd d e))
+    (λ k other told. same_size k e (after_press d fault e.pasted e k) (press_stays k d fault e))
 
 pub other_size : (d : Data) (fault : Option StoreFault) (e : Editor) (key : Key) → is_size_key key ≡ false → SameSize e (after_key d fault e key)
 other_size d fault e = key_size d fault e (λ key. is_size_key key ≡ false) (λ height width told. cc told)
@@ -399,11 +424,11 @@ still_fits d fault painted e new key told is was =
 pub key_top : (d : Data) (fault : Option StoreFault) (e : Editor) (key : Key) → (after_key d fault e key).top ≡ e.top
 key_top d fault e =
     each-key d fault e (λ k new. new.top ≡ e.top) (λ height width. refl) (λ notice. refl) refl
-    (ap (λ (p : Part). p.top) (start_kept PasteStart e), ap (λ (p : Part). p.top) (end_kept PasteEnd d e))
-    (λ k other. ap (λ (p : Part). p.top) (press_kept k d fault e))
+    (ap (λ (p : Frame). p.top) (start_stays PasteStart e), ap (λ (p : Frame). p.top) (end_stays PasteEnd d e))
+    (λ k other. ap (λ (p : Frame). p.top) (press_stays k d fault e))
 
 pub ended_top : (d : Data) (e : Editor) → (paste_ended d e).top ≡ e.top
-ended_top d e = ap (λ (p : Part). p.top) (ended_kept PasteEnd d e)
+ended_top d e = ap (λ (p : Frame). p.top) (ended_stays PasteEnd d e)
 
 -- ---- only a Quit ends a session
 
@@ -414,13 +439,13 @@ unless_quit false now was other h = h
 pub key_goes_on : (d : Data) (fault : Option StoreFault) (e : Editor) (key : Key) → is_quit (Some key) ≡ false → (after_key d fault e key).ended ≡ e.ended
 key_goes_on d fault e =
     each-key d fault e (λ k new. is_quit (Some k) ≡ false → new.ended ≡ e.ended) (λ height width on. refl) (λ notice on. refl) (λ on. refl)
-    (λ on. ap (λ (p : Part). p.ended) (start_kept PasteStart e), λ on. ap (λ (p : Part). p.ended) (end_kept PasteEnd d e))
-    (λ k other on. unless_quit (is_quit (Some k)) _ e.ended on (ap (λ (p : Part). p.ended) (press_kept k d fault e)))
+    (λ on. ap (λ (p : Frame). p.ended) (start_stays PasteStart e), λ on. ap (λ (p : Frame). p.ended) (end_stays PasteEnd d e))
+    (λ k other on. unless_quit (is_quit (Some k)) _ e.ended on (ap (λ (p : Frame). p.ended) (press_stays k d fault e)))
 
 -- nor does the end of a paste
 pub ended_goes_on : (d : Data) (e : Editor) → ((paste_ended d e).ended ≡ e.ended) × SameSize e (paste_ended d e)
 ended_goes_on d e =
-    let kept = ended_kept PasteEnd d e in (ap (λ (p : Part). p.ended) kept, same_size PasteEnd e (paste_ended d e) kept)
+    let kept = ended_stays PasteEnd d e in (ap (λ (p : Frame). p.ended) kept, same_size PasteEnd e (paste_ended d e) kept)
 
 -- what a Quit does does not depend on a save
 quit_alike : (d : Data) (fault : Option StoreFault) (was : Before) (prompt : Prompt) (search_state : SearchState) (e : Editor)

@@ -30,12 +30,12 @@ use Rattle.bx_session.proofs.Ending.{quit_user, unless_stored}
 -- ---- the keys of a replay
 
 stored_or : (P : Editor → Type 0) (b : Bool) (x y : Editor) → (b ≡ true → P x) → (b ≡ false → P y) → P (if b then x else y)
-stored_or P true x y yes no = yes refl
-stored_or P false x y yes no = no refl
+stored_or P true x y h k = h refl
+stored_or P false x y h k = k refl
 
 is_not : (b : Bool) → b ≡ false → (not b && true) ≡ true
-is_not true no = absurd (cc no)
-is_not false no = refl
+is_not true h = absurd (cc h)
+is_not false h = refl
 
 pub each-replayed : (d : Data) (prompt : Prompt) (search_state : SearchState) (e : Editor) (P : Key → Editor → Type 0)
     → P Quit (after_replayed d prompt search_state e Quit)
@@ -44,8 +44,8 @@ pub each-replayed : (d : Data) (prompt : Prompt) (search_state : SearchState) (e
     → P key (after_replayed d prompt search_state e key)
 each-replayed d prompt search_state e P quit stored other Quit = quit
 each-replayed d prompt search_state e P quit stored other key =
-    stored_or (P key) (stores e key) (after_passed prompt key (paste_ended d e)) (after_key d None e key) (λ yes. stored key refl yes)
-    (λ no. other key (is_not (stores e key) no))
+    stored_or (P key) (stores e key) (after_passed prompt key (paste_ended d e)) (after_key d None e key) (λ h. stored key refl h)
+    (λ h. other key (is_not (stores e key) h))
 
 -- a Quit that gives up a search or a question
 given_up : (d : Data) (prompt : Prompt) (e : Editor)

@@ -194,11 +194,13 @@ impl<D: BidiData + Drop> Session<D> {
         ensures refused { OnErr result ((result ≡ Err Refused.Edit) ⊎ (result ≡ Err Refused.Paint)) }
     {
         let key = self.decode(byte);
-        let answer = self.press_completed(key);
-        if !matches!(answer, Err(Refused::Edit)) {
-            self.painting_owed = true;
+        match self.press_completed(key) {
+            Err(Refused::Edit) => Err(Refused::Edit),
+            answer => {
+                self.painting_owed = true;
+                answer
+            }
         }
-        answer
     }
 
     /// Ends a replay: a paste ends, no search is on, nothing is asked, and the next edit begins a run. The text is the stored one unless

@@ -1,55 +1,58 @@
 -- A journal's bytes restore the session.
 use Rattle.std.proofs.Common.{◌≡◌, ◌≢◌, ℕ, Bool, true, false, List, [], ◌∷◌, ◌++◌, Option, Some, None, Result, Ok, Err, length, refl, sym, ap, subst, ◌∙◌, ◌⊎◌, inl}
 use Rattle.std.proofs.Common.{inr, not, if◌then◌else◌, arith}
-use Rattle.std.specs.Prelude.{◌||◌, ◌&&◌, IfSome, option_map, option_to_list}
+use Rattle.std.specs.Prelude.{◌||◌, ◌&&◌, IfSome, is_some, option_map, option_to_list}
 use Rattle.std.specs.Io.KnownBytes.{Appends}
 use Rattle.std.proofs.lemmas.List.{append-nil}
 use Rattle.std.proofs.lemmas.List.Elements.{All-tail}
-use Rattle.bx_common.specs.declared.base.Base.{Base}
 use Rattle.bx_keys.specs.declared.key.Key.{Key}
-use Rattle.bx_keys.specs.declared.key.Key.TheVariants.{Quit}
+use Rattle.bx_keys.specs.declared.key.Key.TheVariants.{Quit, Save}
 use Rattle.bx_keys.specs.Keys.{key_after}
 use Rattle.bx_text.specs.Edits.{Edit}
 use Rattle.bx_store.specs.declared.store.StoreFault.{StoreFault}
 use Rattle.bx_ucd.specs.Data.{Data}
 use Rattle.bx_editor.specs.declared.questions.answers.Prompt.{Prompt}
 use Rattle.bx_editor.specs.declared.questions.answers.Prompt.TheVariants as prompts
-use Rattle.bx_editor.specs.declared.message.Message.TheVariants.{Unsaved}
-use Rattle.bx_editor.specs.Editor.{Editor, after_save, cleared}
-use Rattle.bx_editor.specs.Effects.{before}
+use Rattle.bx_editor.specs.Editor.{Editor}
 use Rattle.bx_editor.specs.Putting.{paste_ended}
 use Rattle.bx_editor.specs.Replay as replay
-use Rattle.bx_editor.specs.Replay.{after_passed_save}
+use Rattle.bx_editor.specs.Replay.{after_passed_answer, after_passed_save}
+use Rattle.bx_editor.specs.Saving.{is_empty_name, with_answered_name, without_answer}
 use Rattle.bx_editor.specs.declared.search_state.SearchState.{SearchState}
-use Rattle.bx_editor.specs.declared.search_state.SearchState.TheVariants.{Off}
-use Rattle.bx_editor.specs.Keys.{after_any, after_key, is_save}
+use Rattle.bx_editor.specs.declared.search_state.SearchState.TheVariants.{Off, Begun, Typed, WithBegun, WithTyped, Replacing}
+use Rattle.bx_editor.specs.Keys.{after_key}
 use Rattle.bx_session.specs.declared.status.Refused.{Refused}
 use Rattle.bx_session.specs.declared.status.Refused.TheVariants as refused
 use Rattle.bx_session.specs.declared.status.Status.{Status}
 use Rattle.bx_session.specs.declared.journal.Backlog.{Backlog}
 use Rattle.bx_session.specs.declared.journal.Backlog.TheVariants.{Empty}
-use Rattle.bx_session.specs.Beginning.{Beginning, after_going_to, at_offset, begun, changed_if}
+use Rattle.bx_session.specs.Beginning.{Beginning, after_going_to, at_offset, begun, changed_if, opened}
 use Rattle.bx_editor.specs.Picture.{scrolled}
-use Rattle.bx_session.specs.Session.{clipboard_if, Session, at_opening, StoreAfter, StoreState, is_save_byte, is_save_key}
+use Rattle.bx_session.specs.Parts.{is_quit}
+use Rattle.bx_session.specs.Session.{clipboard_if, Session, StoreAfter, StoreState, is_save_byte, stores_by}
 use Rattle.bx_session.specs.Session.{text_to_save}
 use Rattle.bx_session.specs.Journal.{HasKept, RecorderState, is_lost, waiting}
 use Rattle.bx_session.specs.Laws.{after_replaying}
-use Rattle.bx_session_laws.specs.Recovery.{HasAll, HasBack, IsKnown, IsSettled, JournalsGiveBack, RefusesNoKey, TellsChanges, once_pasted}
+use Rattle.bx_session_laws.specs.Recovery.{FindsNoChange, HasAll, HasBack, IsKnown, IsNamed, IsSettled, JournalsGiveBack, NamesAgree, PastesAlone}
+use Rattle.bx_session_laws.specs.Recovery.{RefusesNoKey, TellsChanges, once_pasted}
 use Rattle.bx_session.specs.Running.{ByteAnswer, FeedsAll, bytes_of}
 use Rattle.bx_session.specs.Feeding.{Feeds, is_applied}
-use Rattle.bx_session.specs.Replaying.{after_all_replayed, after_replay, after_replayed, at_replay_end, replayed_on}
+use Rattle.bx_session.specs.Replaying.{after_all_replayed, after_passed, after_replay, after_replayed, at_replay_end, replayed_on}
 use Rattle.bx_session_laws.proofs.Alike.{Work, work, after_deeds}
 use Rattle.bx_session_laws.proofs.KeysAlike.{ended_alike, key_alike}
 use Rattle.bx_session_laws.proofs.Deeds.{Knows, Tells, Traces, deeds_know, deeds_tell, deeds_trace, knows_text, traced_text}
-use Rattle.bx_session_laws.proofs.Lasting.{Lasting, lasting, having}
-use Rattle.bx_session.proofs.KeyKinds.{not_saving}
-use Rattle.bx_session.proofs.Ending.{quit_user}
-use Rattle.bx_session_laws.proofs.Recovered.{Follows, Points, PointsAny, PointsByte, PointsOn, all_follow, byte_follows}
-use Rattle.bx_session_laws.proofs.RecoveredParts.{begins_alike, begins_top, ended_back, over_none}
+use Rattle.bx_session_laws.proofs.Lasting.{Lasting, Serves, lasting, having}
+use Rattle.bx_session_laws.proofs.Names.{agree_on, deeds_stay, ended_home, ended_name}
+use Rattle.bx_session_laws.proofs.SavedAlike.{passed_work, saved_work, stored_kind, stored_work, stores_alike, with_name}
+use Rattle.bx_session.proofs.KeyKinds.{is_other, not_quitting, not_storing, quit_stores_nothing, stores}
+use Rattle.bx_session.proofs.KeySizes.{user_pasted}
+use Rattle.bx_session.proofs.Ending.{over, quit_user}
+use Rattle.bx_session_laws.proofs.Recovered.{Follows, Points, PointsAny, PointsByte, PointsOn, all_follow, byte_follows, keeps_alone, key_is, serves}
+use Rattle.bx_session_laws.proofs.RecoveredParts.{begins_alike, begins_top, ended_back, home_named, over_none}
 use Rattle.bx_session_laws.proofs.TopsAlike.{points_on}
 use Rattle.bx_session.proofs.Leaving.{byte_leaves, editor_after}
-use Rattle.bx_session.proofs.Replayed.{applies, each-replayed}
-use Rattle.bx_session_laws.proofs.WorkKept.{quit_works, save_works}
+use Rattle.bx_session.proofs.Replayed.{applies, each-replayed, quit_replayed}
+use Rattle.bx_session_laws.proofs.WorkKept.{quit_leaves, quit_works}
 use Rattle.bx_session_laws.proofs.Versions.{version, version_here}
 
 -- ---- a replay counts as unchanged only with the opened text and no past
@@ -58,53 +61,143 @@ over_traces : (d : Data) (first : List ℕ) (e : Editor) → Traces first (work 
 over_traces d first e h =
     let alike = ended_alike d e e in subst (Traces first) (sym alike.first) (deeds_trace first alike.deeds (work e) h)
 
-save_traces : (first : List ℕ) (e : Editor) → Traces first (work e) → Traces first (work (after_passed_save e))
-save_traces first e h = record { chain = h.chain; first_is = h.first_is; stored = inl refl; unchanged = h.unchanged }
+passed_traces : (first : List ℕ) (w : Work) (name : Option (List ℕ)) → Traces first w → Traces first (record w { stored = None; name = name })
+passed_traces first w name h = record { chain = h.chain; first_is = h.first_is; stored = inl refl; unchanged = h.unchanged }
 
-key_traces : (d : Data) (first : List ℕ) (e : Editor) (key : Key) → Traces first (work e) → Traces first (work (replayed_on d e key))
-key_traces d first e key h =
+-- a replay beside itself
+serves_itself : (e : Editor) (key : Key) → is_other e key ≡ true → Serves e e key
+serves_itself e key other =
+    record { goes_on = not_quitting e key other; stores_nothing = not_storing e key other; rests = inr refl; names = refl }
+
+key_traces : (d : Data) (first : List ℕ) (e : Editor) (key : Key) → PastesAlone e → Traces first (work e) → Traces first (work (replayed_on d e key))
+key_traces d first e key alone h =
     let over : Editor = paste_ended d e in
     let traces = over_traces d first e h in
-    each-replayed d over.prompt over.search_state e (λ k new. Traces first (work new)) (save_traces first over traces)
+    each-replayed d over.prompt over.search_state e (λ k new. Traces first (work new))
     (subst (Traces first) (sym (quit_works d over.prompt over.search_state e refl refl)) traces)
-    (λ k other. (let alike = key_alike d None e e k (other, inr refl) in
+    (λ k quits saves. (let passes = passed_work over.prompt k over in
+    subst (Traces first) (sym passes.is) (passed_traces first (work over) passes.name traces)))
+    (λ k other. (let alike = key_alike d None e e k alone (serves_itself e k other) in
     subst (Traces first) (sym alike.first) (deeds_trace first alike.deeds (work e) h))) key
 
-any_traces : (d : Data) (first : List ℕ) (e : Editor) (key : Option Key) → Traces first (work e)
+-- where saves go: nothing is stored, so a name stays once they go to a file
+record StaysNamed (e new : Editor) : Type 0 where
+  pub home : new.home ≡ e.home
+  pub name : e.home ≡ true → new.name ≡ e.name
+
+work_named : (e new : Editor) → (work new).name ≡ (work e).name → (work new).home ≡ (work e).home → StaysNamed e new
+work_named e new name home = record { home = home; name = λ at. name }
+
+taken_named : (takes : Bool) (e : Editor) → (e.home ≡ true → takes ≡ false)
+    → StaysNamed e (after_passed_save (if takes then with_answered_name e else without_answer e))
+taken_named true e none = record { home = refl; name = λ at. (let both : true ≡ false = none at in absurd (cc both)) }
+taken_named false e none = record { home = refl; name = λ at. refl }
+
+not_taken : (some home : Bool) → home ≡ true → (some && not home) ≡ false
+not_taken true true at = refl
+not_taken false true at = refl
+not_taken some false at = absurd (cc at)
+
+passed_named : (prompt : Prompt) (key : Key) (e : Editor) → StaysNamed e (after_passed prompt key e)
+passed_named prompts.File Save e = record { home = refl; name = λ at. refl }
+passed_named prompts.File key e = taken_named (is_some e.name && not e.home) e (not_taken (is_some e.name) e.home)
+passed_named prompt key e = record { home = refl; name = λ at. refl }
+
+over_named : (d : Data) (e new : Editor) → StaysNamed (paste_ended d e) new → StaysNamed e new
+over_named d e new h = record {
+  home = h.home ∙ ended_home d e;
+  name = λ at. h.name (ended_home d e ∙ at) ∙ ended_name d e;
+}
+
+key_named : (d : Data) (e : Editor) (key : Key) → PastesAlone e → StaysNamed e (replayed_on d e key)
+key_named d e key alone =
+    let over : Editor = paste_ended d e in
+    each-replayed d over.prompt over.search_state e (λ k new. StaysNamed e new)
+    (let is = quit_works d over.prompt over.search_state e refl refl in
+    over_named d e (after_replayed d over.prompt over.search_state e Quit)
+    (work_named over (after_replayed d over.prompt over.search_state e Quit) (ap (λ (w : Work). w.name) is) (ap (λ (w : Work). w.home) is)))
+    (λ k quits saves. over_named d e (after_passed over.prompt k over) (passed_named over.prompt k over))
+    (λ k other. (let alike = key_alike d None e e k alone (serves_itself e k other) in
+    let stay = deeds_stay alike.deeds (work e) in
+    work_named e (after_key d None e k) (ap (λ (w : Work). w.name) alike.first ∙ stay.0) (ap (λ (w : Work). w.home) alike.first ∙ stay.1))) key
+
+still_named : (e new : Editor) → StaysNamed e new → IsNamed e → IsNamed new
+still_named e new stays named at =
+    let home : e.home ≡ true = sym stays.home ∙ at in ap is_empty_name (stays.name home) ∙ named home
+
+-- and a paste stays alone
+answer_pasted : (takes : Bool) (e : Editor) → e.pasted ≡ None → (after_passed_save (if takes then with_answered_name e else without_answer e)).pasted ≡ None
+answer_pasted true e none = none
+answer_pasted false e none = none
+
+passed_pasted : (prompt : Prompt) (key : Key) (e : Editor) → e.pasted ≡ None → (after_passed prompt key e).pasted ≡ None
+passed_pasted prompts.File Save e none = none
+passed_pasted prompts.File key e none = answer_pasted (is_some e.name && not e.home) e none
+passed_pasted prompt key e none = none
+
+given_up : (d : Data) (prompt : Prompt) (search_state : SearchState) (e : Editor) → ((prompt ≡ prompts.Off) × (search_state ≡ Off) → ⊥)
+    → (after_replayed d prompt search_state e Quit).pasted ≡ None
+given_up d prompt search_state e on =
+    let x : Editor = paste_ended d e in
+    ap (λ (y : Editor). y.pasted) (quit_replayed d prompt search_state e on ∙ quit_user d None e) ∙ user_pasted d None x Quit ∙ over d e
+
+quit_pasted : (d : Data) (prompt : Prompt) (search_state : SearchState) (e : Editor) → (after_replayed d prompt search_state e Quit).pasted ≡ None
+quit_pasted d prompts.Off Off e = over d e
+quit_pasted d prompts.Off Begun e = given_up d prompts.Off Begun e (λ off. cc off.1)
+quit_pasted d prompts.Off Typed e = given_up d prompts.Off Typed e (λ off. cc off.1)
+quit_pasted d prompts.Off WithBegun e = given_up d prompts.Off WithBegun e (λ off. cc off.1)
+quit_pasted d prompts.Off WithTyped e = given_up d prompts.Off WithTyped e (λ off. cc off.1)
+quit_pasted d prompts.Off Replacing e = given_up d prompts.Off Replacing e (λ off. cc off.1)
+quit_pasted d prompts.Line search_state e = given_up d prompts.Line search_state e (λ off. cc off.0)
+quit_pasted d prompts.Name search_state e = given_up d prompts.Name search_state e (λ off. cc off.0)
+quit_pasted d prompts.Code search_state e = given_up d prompts.Code search_state e (λ off. cc off.0)
+quit_pasted d prompts.File search_state e = given_up d prompts.File search_state e (λ off. cc off.0)
+quit_pasted d prompts.Overwrite search_state e = given_up d prompts.Overwrite search_state e (λ off. cc off.0)
+
+unpasted : (e : Editor) → e.pasted ≡ None → PastesAlone e
+unpasted e none = λ some. absurd (some none)
+
+key_stays_alone : (d : Data) (e : Editor) (key : Key) → PastesAlone e → PastesAlone (replayed_on d e key)
+key_stays_alone d e key alone =
+    let x : Editor = paste_ended d e in
+    each-replayed d x.prompt x.search_state e (λ k new. PastesAlone new)
+    (unpasted (after_replayed d x.prompt x.search_state e Quit) (quit_pasted d x.prompt x.search_state e))
+    (λ k quits saves. unpasted (after_passed x.prompt k x) (passed_pasted x.prompt k x (over d e))) (λ k other. keeps_alone d None e k alone) key
+
+any_traces : (d : Data) (first : List ℕ) (e : Editor) (key : Option Key) → PastesAlone e → Traces first (work e)
     → Traces first (work (after_all_replayed d e (option_to_list key)))
-any_traces d first e None h = h
-any_traces d first e (Some key) h = key_traces d first (scrolled d e) key h
+any_traces d first e None alone h = h
+any_traces d first e (Some key) alone h = key_traces d first (scrolled d e) key alone h
+
+any_named : (d : Data) (e : Editor) (key : Option Key) → PastesAlone e → IsNamed e → IsNamed (after_all_replayed d e (option_to_list key))
+any_named d e None alone named = named
+any_named d e (Some key) alone named = still_named (scrolled d e) (replayed_on d (scrolled d e) key) (key_named d (scrolled d e) key alone) named
+
+any_alone : (d : Data) (e : Editor) (key : Option Key) → PastesAlone e → PastesAlone (after_all_replayed d e (option_to_list key))
+any_alone d e None alone = alone
+any_alone d e (Some key) alone = key_stays_alone d (scrolled d e) key alone
 
 record Replays (first : List ℕ) (new : Session) : Type 0 where
   pub goes_on : new.editor.ended ≡ false
   pub traces : Traces first (work new.editor)
+  pub alone : PastesAlone new.editor
+  pub named : IsNamed new.editor
 
 replays : (d : Data) (first : List ℕ) (s : Session) (bs : List ℕ) → Replays first s → Replays first (after_replaying d s bs)
 replays d first s [] h = h
 replays d first s (b ∷ bs) h =
     let each = applies d s b h.goes_on in
+    let key = key_after s.rest b in
     replays d first (after_replay d s b) bs (record {
       goes_on = each.goes_on;
-      traces = subst (λ (e : Editor). Traces first (work e)) (sym each.editor) (any_traces d first s.editor (key_after s.rest b) h.traces);
+      traces = subst (λ (e : Editor). Traces first (work e)) (sym each.editor) (any_traces d first s.editor key h.alone h.traces);
+      alone = subst PastesAlone (sym each.editor) (any_alone d s.editor key h.alone);
+      named = subst IsNamed (sym each.editor) (any_named d s.editor key h.alone h.named);
     })
 
 replaying_more : (d : Data) (s : Session) (bs more : List ℕ) → after_replaying d s (bs ++ more) ≡ after_replaying d (after_replaying d s bs) more
 replaying_more d s [] more = refl
 replaying_more d s (b ∷ bs) more = replaying_more d (after_replay d s b) bs more
-
--- ---- a Quit in a session
-
--- it changes at most whether the session has ended
-quit_leaves : (d : Data) (fault : Option StoreFault) (prompt : Prompt) (search_state : SearchState) (e : Editor)
-    → (ended : Bool) × (work (after_any d fault (before e) prompt search_state (cleared e) Quit) ≡ record (work e) { ended = ended })
-quit_leaves d fault prompts.Off Off e = by_end (not e.changed || e.quit_before) where
-  by_end : (ends : Bool) → (ended : Bool)
-      × (work (if ends then record (cleared e) { quit_before = true; ended = true } else record (cleared e) { quit_before = true; message = Some Unsaved })
-      ≡ record (work e) { ended = ended })
-  by_end true = (true, refl)
-  by_end false = (e.ended, refl)
-quit_leaves d fault prompts.Off search_state e = (e.ended, refl)
-quit_leaves d fault prompt search_state e = (e.ended, refl)
 
 -- ---- a session that counts as unchanged has a known text
 
@@ -122,16 +215,17 @@ holds_text : (contents : Option (List ℕ)) (text : List ℕ) → IfSome (option
 holds_text None text = tt
 holds_text (Some bytes) text = refl
 
-after_saving : (fault : Option StoreFault) (first : List ℕ) (store store' : StoreState) (e : Editor) → StoreAfter true fault e.content.text store store'
-    → Knows (IsKnownIn first store) (work e) → Knows (IsKnownIn first store') (work (after_save (cleared e) fault))
-after_saving None first store store' e stores h = record {
+saved_knows : (fault : Option StoreFault) (first : List ℕ) (store store' : StoreState) (w : Work) (name : Option (List ℕ))
+    → StoreAfter true fault w.content.text store store' → Knows (IsKnownIn first store) w → Knows (IsKnownIn first store') (saved_work fault (with_name name w))
+saved_knows None first store store' w name saves h = record {
   chain = h.chain;
-  stored = subst (IsKnownIn first store') (sym (version_here e.content))
-      (inr (subst (λ (s : StoreState). IfSome s.contents (λ bytes. bytes ≡ e.content.text)) (sym stores) (holds_text store.contents e.content.text)));
+  stored = subst (IsKnownIn first store') (sym (version_here w.content))
+      (inr (subst (λ (s : StoreState). IfSome s.contents (λ bytes. bytes ≡ w.content.text)) (sym saves) (holds_text store.contents w.content.text)));
   unchanged = λ is. refl;
 }
-after_saving (Some fault) first store store' e stores h =
-    subst (λ (contents : Option (List ℕ)). Knows (IsOf first contents) (work e)) (sym stores.0) h
+saved_knows (Some fault) first store store' w name saves h =
+    let kept : Knows (IsKnownIn first store') w = subst (λ (contents : Option (List ℕ)). Knows (IsOf first contents) w) (sym saves.0) h in
+    record { chain = kept.chain; stored = kept.stored; unchanged = kept.unchanged }
 
 stays : (save : Bool) (fault : Option StoreFault) (first : List ℕ) (store store' : StoreState) (w : Work) (was : List ℕ) → save ≡ false
     → StoreAfter save fault was store store' → Knows (IsKnownIn first store) w → Knows (IsKnownIn first store') w
@@ -149,35 +243,37 @@ quit_knows d fault P e h =
     subst (λ (new : Editor). Knows P (work new)) (sym (quit_user d fault e))
     (subst (Knows P) (sym leaves.1) (ended_knows P (work over) leaves.0 (over_knows d P e h)))
 
-key_knows : (d : Data) (fault : Option StoreFault) (first : List ℕ) (store store' : StoreState) (e : Editor) (key : Key)
-    → StoreAfter (is_save key) fault (text_to_save d e) store store' → Knows (IsKnownIn first store) (work e)
+key_knows : (d : Data) (fault : Option StoreFault) (first : List ℕ) (store store' : StoreState) (e : Editor) (key : Key) → PastesAlone e
+    → StoreAfter (stores e key) fault (text_to_save d e) store store' → Knows (IsKnownIn first store) (work e)
     → Knows (IsKnownIn first store') (work (after_key d fault e key))
-key_knows d fault first store store' e key =
+key_knows d fault first store store' e key alone =
     let P = IsKnownIn first store' in
-    each-replayed d e.prompt e.search_state e (λ k new. StoreAfter (is_save k) fault (text_to_save d e) store store' → Knows (IsKnownIn first store) (work e)
+    each-replayed d e.prompt e.search_state e (λ k new. StoreAfter (stores e k) fault (text_to_save d e) store store' → Knows (IsKnownIn first store) (work e)
     → Knows P (work (after_key d fault e k)))
-    (λ stores h. subst (Knows P) (sym (save_works d fault e))
-    (after_saving fault first store store' (paste_ended d e) stores (over_knows d (IsKnownIn first store) e h)))
-    (λ stores h. quit_knows d fault P e (stays false fault first store store' (work e) (text_to_save d e) refl stores h))
-    (λ k other stores h. (let alike = key_alike d fault e e k (other, inr refl) in
+    (λ kept h. quit_knows d fault P e (stays (stores e Quit) fault first store store' (work e) (text_to_save d e) (quit_stores_nothing e) kept h))
+    (λ k quits saves kept h. (let leaves = stored_work d fault e k (stored_kind d fault e k saves) in
+    subst (Knows P) (sym leaves.is)
+    (saved_knows fault first store store' (work (paste_ended d e)) leaves.name
+    (subst (λ save. StoreAfter save fault (text_to_save d e) store store') saves kept) (over_knows d (IsKnownIn first store) e h))))
+    (λ k other kept h. (let alike = key_alike d fault e e k alone (serves_itself e k other) in
     subst (Knows P) (sym alike.first) (deeds_know P alike.deeds (work e)
-    (stays (is_save k) fault first store store' (work e) (text_to_save d e) (not_saving k other) stores h)))) key
+    (stays (stores e k) fault first store store' (work e) (text_to_save d e) (not_storing e k other) kept h)))) key
 
-any_knows : (d : Data) (fault : Option StoreFault) (first : List ℕ) (store store' : StoreState) (e : Editor) (key : Option Key)
-    → StoreAfter (is_save_key key) fault (text_to_save d e) store store' → Knows (IsKnownIn first store) (work e)
+any_knows : (d : Data) (fault : Option StoreFault) (first : List ℕ) (store store' : StoreState) (e : Editor) (key : Option Key) → PastesAlone e
+    → StoreAfter (stores_by e key) fault (text_to_save d e) store store' → Knows (IsKnownIn first store) (work e)
     → Knows (IsKnownIn first store') (work (editor_after d fault e key))
-any_knows d fault first store store' e None stores h = stays false fault first store store' (work e) (text_to_save d e) refl stores h
-any_knows d fault first store store' e (Some key) stores h = key_knows d fault first store store' e key stores h
+any_knows d fault first store store' e None alone saves h = stays false fault first store store' (work e) (text_to_save d e) refl saves h
+any_knows d fault first store store' e (Some key) alone saves h = key_knows d fault first store store' e key alone saves h
 
 -- ---- a replay counts as changed where the session does
 
 ended_tells : (w r : Work) (ended : Bool) → Tells w r → Tells (record w { ended = ended }) r
 ended_tells w r ended h = record { content = h.content; undo_groups = h.undo_groups; stored = h.stored; changed = h.changed }
 
-save_tells : (fault : Option StoreFault) (e f : Editor) → Tells (work e) (work f)
-    → Tells (work (after_save (cleared e) fault)) (work (after_passed_save f))
-save_tells None e f h = record { content = h.content; undo_groups = h.undo_groups; stored = inl refl; changed = λ is. absurd (cc is) }
-save_tells (Some fault) e f h = record { content = h.content; undo_groups = h.undo_groups; stored = inl refl; changed = h.changed }
+saved_tells : (fault : Option StoreFault) (w r : Work) (name name' : Option (List ℕ)) → Tells w r
+    → Tells (saved_work fault (with_name name w)) (record r { stored = None; name = name' })
+saved_tells None w r name name' h = record { content = h.content; undo_groups = h.undo_groups; stored = inl refl; changed = λ is. absurd (cc is) }
+saved_tells (Some fault) w r name name' h = record { content = h.content; undo_groups = h.undo_groups; stored = inl refl; changed = h.changed }
 
 over_tells : (d : Data) (e f : Editor) → let g = having (lasting e) f in
     Tells (work e) (work g) → Tells (work (paste_ended d e)) (work (paste_ended d g))
@@ -206,30 +302,31 @@ quit_tells d fault e f h =
     (subst (Tells (record (work x) { ended = leaves.0 })) (sym (quit_works d y.prompt y.search_state g refl refl))
     (ended_tells (work x) (work y) leaves.0 (over_tells d e f h))))
 
-like_tells : (d : Data) (fault : Option StoreFault) (e f : Editor) (key : Key) → Points e.top f.top key → let g = having (lasting e) f in
-    Tells (work e) (work g) → Tells (work (after_key d fault e key)) (work (replayed_on d g key))
-like_tells d fault e f key points h =
+like_tells : (d : Data) (fault : Option StoreFault) (e f : Editor) (key : Key) → PastesAlone e → NamesAgree e f → Points e.top f.top key
+    → let g = having (lasting e) f in Tells (work e) (work g) → Tells (work (after_key d fault e key)) (work (replayed_on d g key))
+like_tells d fault e f key alone names points h =
     let g = having (lasting e) f in
     let y : Editor = paste_ended d g in
     each-replayed d y.prompt y.search_state g (λ k new. Points e.top f.top k → Tells (work (after_key d fault e k)) (work new))
-    (λ points. subst (λ (w : Work). Tells w (work (after_passed_save y))) (sym (save_works d fault e))
-    (save_tells fault (paste_ended d e) y (over_tells d e f h))) (λ points. quit_tells d fault e f h)
-    (λ k other points. (let alike = key_alike d fault e f k (other, points) in
+    (λ points. quit_tells d fault e f h)
+    (λ k quits saves points. (let own : stores e k ≡ true = sym (stores_alike e f k names.nameless) ∙ saves in
+    let leaves = stored_work d fault e k (stored_kind d fault e k own) in
+    let passes = passed_work y.prompt k y in
+    subst (λ (w : Work). Tells w (work (after_passed y.prompt k y))) (sym leaves.is)
+    (subst (Tells (saved_work fault (with_name leaves.name (work (paste_ended d e))))) (sym passes.is)
+    (saved_tells fault (work (paste_ended d e)) (work y) leaves.name passes.name (over_tells d e f h)))))
+    (λ k other points. (let alike = key_alike d fault e f k alone (serves e f k other points names) in
     subst (λ (w : Work). Tells w (work (after_key d None g k))) (sym alike.first)
     (subst (Tells (after_deeds alike.deeds (work e))) (sym alike.other) (deeds_tell alike.deeds (work e) (work g) h)))) key points
 
-any_tells : (d : Data) (fault : Option StoreFault) (e f : Editor) (key : Option Key) → lasting e ≡ lasting f
+any_tells : (d : Data) (fault : Option StoreFault) (e f : Editor) (key : Option Key) → PastesAlone e → NamesAgree e f → lasting e ≡ lasting f
     → PointsAny e.top (scrolled d f).top key → Tells (work e) (work f)
     → Tells (work (editor_after d fault e key)) (work (after_all_replayed d f (option_to_list key)))
-any_tells d fault e f None same points h = h
-any_tells d fault e f (Some key) same points h =
+any_tells d fault e f None alone names same points h = h
+any_tells d fault e f (Some key) alone names same points h =
     let g = scrolled d f in
     subst (λ (l : Lasting). Tells (work e) (work (having l g)) → Tells (work (after_key d fault e key)) (work (replayed_on d (having l g) key))) same
-    (like_tells d fault e g key points) h
-
-key_here : (ended : Bool) (key : Option Key) → ended ≡ false → (if ended then None else key) ≡ key
-key_here true key h = absurd (cc h)
-key_here false key h = refl
+    (like_tells d fault e g key alone (agree_on e f e g refl refl refl refl names) points) h
 
 -- a key that is not refused is applied
 applied : (a : Result Status Refused) → a ≢ Err refused.Edit → is_applied a ≡ true
@@ -254,65 +351,90 @@ byte_agrees d first s r store store' b a new before h runs some points feeds =
     let same : (after_replay d r b).editor ≡ after_all_replayed d r.editor (option_to_list key) =
     each.editor ∙ ap (λ rest. after_all_replayed d r.editor (option_to_list (key_after rest b))) (sym before.rest_is) in
     let saves = subst (λ yes. StoreAfter (yes && is_save_byte s b) feeds.0 (text_to_save d s.editor) store store') (applied a some) feeds.1 in
-    let stores = subst (λ k. StoreAfter (is_save_key k) feeds.0 (text_to_save d s.editor) store store') (key_here s.editor.ended key runs) saves in record {
+    let kept = subst (λ k. StoreAfter (stores_by s.editor k) feeds.0 (text_to_save d s.editor) store store') (key_is s b runs) saves in record {
       tells = subst (λ (e : Editor). Tells (work new.editor) (work e)) (sym same)
           (subst (λ (e : Editor). Tells (work e) (work (after_all_replayed d r.editor (option_to_list key)))) (sym leaves.editor)
-          (any_tells d feeds.0 s.editor r.editor key before.lasts points h.tells));
+          (any_tells d feeds.0 s.editor r.editor key before.alone before.names before.lasts points h.tells));
       knows = subst (λ (e : Editor). Knows (IsKnownIn first store') (work e)) (sym leaves.editor)
-          (any_knows d feeds.0 first store store' s.editor key stores h.knows);
+          (any_knows d feeds.0 first store store' s.editor key before.alone kept h.knows);
     }
 
 all_agree : (d : Data) (first : List ℕ) (s r : Session) (store store' : StoreState) (answered : List ByteAnswer) (new : Session) → Follows s r
-    → Agrees first store s r → (feeds : FeedsAll d s store answered new store') → RefusesNoKey answered → PointsOn d s r store answered new store' feeds
+    → Agrees first store s r → (feeds : FeedsAll d s store answered new store') → RefusesNoKey answered
+    → FindsNoChange d s store answered new store' feeds → PointsOn d s r store answered new store' feeds
     → Agrees first store' new (after_replaying d r (bytes_of answered))
-all_agree d first s r store store' [] new before h feeds none points =
+all_agree d first s r store store' [] new before h feeds none same points =
     subst (λ (x : StoreState). Agrees first x new r) (sym feeds.1) (subst (λ (x : Session). Agrees first store x r) (sym feeds.0) h)
-all_agree d first s r store store' (a ∷ answered) new before h feeds none points =
+all_agree d first s r store store' (a ∷ answered) new before h feeds none same points =
     let some = none 0 a (omega arith) in
     all_agree d first feeds.0 (after_replay d r a.0) feeds.1 store' answered new
-    (byte_follows d s r store feeds.1 a.0 a.1 feeds.0 before feeds.2 some points.0 feeds.3)
+    (byte_follows d s r store feeds.1 a.0 a.1 feeds.0 before feeds.2 some points.0 feeds.3 same.0)
     (byte_agrees d first s r store feeds.1 a.0 a.1 feeds.0 before h feeds.2 some points.0 feeds.3)
-    feeds.5 (All-tail (λ (x : ByteAnswer). x.1 ≢ Err refused.Edit) a answered none) points.1
+    feeds.5 (All-tail (λ (x : ByteAnswer). x.1 ≢ Err refused.Edit) a answered none) same.1 points.1
 
 -- ---- the start
 
-starts_at : (d : Data) (text : List ℕ) (height width : ℕ) (base : Base) (clipboard : Bool) (offset : Option ℕ) (unsaved : Bool)
-    → Replays text (changed_if unsaved (after_going_to d (clipboard_if clipboard (at_opening d text height width base)) offset))
-starts_at d text height width base true None true = record {
-  goes_on = refl;
-  traces = record { chain = record { past = tt; future = tt }; first_is = refl; stored = inl refl; unchanged = λ is. refl };
+starts_at : (d : Data) (text : List ℕ) (s : Session) (clipboard : Bool) (offset : Option ℕ) (unsaved : Bool) → Replays text s → s.editor.pasted ≡ None
+    → Replays text (changed_if unsaved (after_going_to d (clipboard_if clipboard s) offset))
+starts_at d text s true None true h none = record {
+  goes_on = h.goes_on;
+  traces = record { chain = h.traces.chain; first_is = h.traces.first_is; stored = inl refl; unchanged = λ is. absurd (cc is) };
+  alone = λ some. absurd (some none);
+  named = h.named;
 }
-starts_at d text height width base true None false = record {
+starts_at d text s true None false h none = record {
+  goes_on = h.goes_on;
+  traces = record { chain = h.traces.chain; first_is = h.traces.first_is; stored = h.traces.stored; unchanged = h.traces.unchanged };
+  alone = λ some. absurd (some none);
+  named = h.named;
+}
+starts_at d text s true (Some offset) true h none = record {
+  goes_on = h.goes_on;
+  traces = record { chain = h.traces.chain; first_is = h.traces.first_is; stored = inl refl; unchanged = λ is. absurd (cc is) };
+  alone = λ some. absurd (some none);
+  named = h.named;
+}
+starts_at d text s true (Some offset) false h none = record {
+  goes_on = h.goes_on;
+  traces = record { chain = h.traces.chain; first_is = h.traces.first_is; stored = h.traces.stored; unchanged = h.traces.unchanged };
+  alone = λ some. absurd (some none);
+  named = h.named;
+}
+starts_at d text s false None true h none = record {
+  goes_on = h.goes_on;
+  traces = record { chain = h.traces.chain; first_is = h.traces.first_is; stored = inl refl; unchanged = λ is. absurd (cc is) };
+  alone = λ some. absurd (some none);
+  named = h.named;
+}
+starts_at d text s false None false h none = record {
+  goes_on = h.goes_on;
+  traces = record { chain = h.traces.chain; first_is = h.traces.first_is; stored = h.traces.stored; unchanged = h.traces.unchanged };
+  alone = λ some. absurd (some none);
+  named = h.named;
+}
+starts_at d text s false (Some offset) true h none = record {
+  goes_on = h.goes_on;
+  traces = record { chain = h.traces.chain; first_is = h.traces.first_is; stored = inl refl; unchanged = λ is. absurd (cc is) };
+  alone = λ some. absurd (some none);
+  named = h.named;
+}
+starts_at d text s false (Some offset) false h none = record {
+  goes_on = h.goes_on;
+  traces = record { chain = h.traces.chain; first_is = h.traces.first_is; stored = h.traces.stored; unchanged = h.traces.unchanged };
+  alone = λ some. absurd (some none);
+  named = h.named;
+}
+
+opened_replays : (d : Data) (b : Beginning) → Replays b.text (opened d b)
+opened_replays d b = record {
   goes_on = refl;
   traces = record { chain = record { past = tt; future = tt }; first_is = refl; stored = inr refl; unchanged = λ is. refl };
-}
-starts_at d text height width base true (Some offset) true = record {
-  goes_on = refl;
-  traces = record { chain = record { past = tt; future = tt }; first_is = refl; stored = inl refl; unchanged = λ is. refl };
-}
-starts_at d text height width base true (Some offset) false = record {
-  goes_on = refl;
-  traces = record { chain = record { past = tt; future = tt }; first_is = refl; stored = inr refl; unchanged = λ is. refl };
-}
-starts_at d text height width base false None true = record {
-  goes_on = refl;
-  traces = record { chain = record { past = tt; future = tt }; first_is = refl; stored = inl refl; unchanged = λ is. refl };
-}
-starts_at d text height width base false None false = record {
-  goes_on = refl;
-  traces = record { chain = record { past = tt; future = tt }; first_is = refl; stored = inr refl; unchanged = λ is. refl };
-}
-starts_at d text height width base false (Some offset) true = record {
-  goes_on = refl;
-  traces = record { chain = record { past = tt; future = tt }; first_is = refl; stored = inl refl; unchanged = λ is. refl };
-}
-starts_at d text height width base false (Some offset) false = record {
-  goes_on = refl;
-  traces = record { chain = record { past = tt; future = tt }; first_is = refl; stored = inr refl; unchanged = λ is. refl };
+  alone = λ some. absurd (some refl);
+  named = λ home. home_named b.settings.name home;
 }
 
 starts : (d : Data) (b : Beginning) → Replays b.text (at_offset d b)
-starts d b = starts_at d b.text b.height b.width b.base b.clipboard b.offset b.unsaved
+starts d b = starts_at d b.text (opened d b) b.clipboard b.offset b.unsaved (opened_replays d b) refl
 
 end_tells : (first : List ℕ) (e : Editor) → Traces first (work e) → IsSettled e → Tells (work (replay.at_replay_end e)) (work e)
 end_tells first e traces settled = record { content = refl; undo_groups = refl; stored = by_change e.changed refl traces.stored; changed = λ h. h } where
@@ -377,7 +499,10 @@ unsent d all new replayed is h = subst (λ (x : Session). HasBack (once_pasted d
   place = h.place;
   mark = h.mark;
   soft = h.soft;
+  clicks = h.clicks;
+  pressed = h.pressed;
   held = h.held;
+  whole_line = h.whole_line;
   query = h.query;
   purpose = h.purpose;
   replacement = h.replacement;
@@ -386,6 +511,15 @@ unsent d all new replayed is h = subst (λ (x : Session). HasBack (once_pasted d
   goal = h.goal;
   height = h.height;
   width = h.width;
+  read_only = h.read_only;
+  auto_indent = h.auto_indent;
+  tab_width = h.tab_width;
+  names = record {
+    nameless = h.names.nameless;
+    name = h.names.name;
+    had_file = h.names.had_file;
+    replayed_file = h.names.replayed_file;
+  };
   rest = h.rest;
   goes_on = h.goes_on;
 })
@@ -413,7 +547,7 @@ ended_run d first store all new r same h = record {
 }
 
 pub journals_give_back : {J : Type 0} (contents : J → Option (List ℕ)) (failures : J → ℕ) → JournalsGiveBack contents failures
-journals_give_back contents failures d b new store store' reader reader' writer writer' journal journal' bytes run had settled has none seen =
+journals_give_back contents failures d b new store store' reader reader' writer writer' journal journal' bytes run had settled has none same_file seen =
     let opened_at = at_offset d b in
     let replayed = after_replaying d opened_at b.journal in
     let answered = run.0 in
@@ -424,15 +558,15 @@ journals_give_back contents failures d b new store store' reader reader' writer 
     let whole : after_replaying d opened_at bytes ≡ end = ap (after_replaying d opened_at) is ∙ replaying_more d opened_at b.journal (bytes_of answered) in
     let same : new.editor ≡ all.editor = ap (λ (x : Session). x.editor) ran.session in
     let through = replays d b.text opened_at b.journal (starts d b) in
-    let alike = begins_alike d b settled through.goes_on in
+    let alike = begins_alike d b settled through.goes_on through.named in
     let on = replays d b.text replayed (bytes_of answered) through in
     let first : Agrees b.text store (begun d b) replayed = record {
       tells = begins_telling d b.text replayed.editor through.traces settled;
       knows = begins_knowing d b.text store replayed.editor through.traces;
     } in
-    let points = points_on d (begun d b) replayed store store' answered all alike (begins_top d b settled) ran.feeds none seen in
-    let follow = all_follow d (begun d b) replayed store store' answered all alike ran.feeds none points in
-    let agree = all_agree d b.text (begun d b) replayed store store' answered all alike first ran.feeds none points in
+    let points = points_on d (begun d b) replayed store store' answered all alike (begins_top d b settled) ran.feeds none same_file seen in
+    let follow = all_follow d (begun d b) replayed store store' answered all alike ran.feeds none same_file points in
+    let agree = all_agree d b.text (begun d b) replayed store store' answered all alike first ran.feeds none same_file points in
     let back = ended_back d all end follow in
     let tells = tells_changes d b.text store' all end follow.lasts agree on.traces in (
       unsent d all new (at_replay_end d (after_replaying d opened_at bytes)) ran.session

@@ -1,108 +1,216 @@
--- Any key that is neither Save nor Quit does the same to two editors of which the same lasts, if they show the same row first or it
--- points at no row.
+-- Any key that stores nothing and is no Quit does the same to two editors of which the same lasts, if they show the same row first or it
+-- rests on no row of the picture.
 use Rattle.std.proofs.Common.{◌≡◌, ℕ, Bool, true, false, List, [], ◌∷◌, ◌++◌, length, Option, Some, None, refl, sym, ap, subst, ◌∙◌, inl, inr, ⊎_elim, if◌then◌else◌}
-use Rattle.std.specs.Prelude.{◌==◌}
+use Rattle.std.specs.Prelude.{◌==◌, ◌≢◌, ◌⊎◌, ◌&&◌, ◌||◌, not, is_some}
 use Rattle.bx_keys.specs.declared.key.Key.{Key}
-use Rattle.bx_keys.specs.declared.key.Key.TheVariants.{Insert, Repaint}
+use Rattle.bx_keys.specs.declared.key.Key.TheVariants.{Insert, Repaint, Save}
 use Rattle.bx_store.specs.declared.store.StoreFault.{StoreFault}
 use Rattle.bx_editor.specs.declared.undo_groups.typing.Typing.{Typing}
 use Rattle.bx_editor.specs.declared.undo_groups.typing.Typing.TheVariants as typings
+use Rattle.bx_text.specs.index.Paragraphs.{is_separator}
 use Rattle.bx_ucd.specs.Data.{Data}
+use Rattle.bx_editor.specs.declared.answer.Answer.{Answer}
+use Rattle.bx_editor.specs.declared.answer.Answer.TheVariants.{Letter, Erases, Moves, PutsIn, Passes, GoesBack, Next, Previous, Replaces, Scrolls, Stays, Ends}
+use Rattle.bx_editor.specs.declared.input_line.Erasure.{Erasure}
 use Rattle.bx_editor.specs.declared.questions.answers.Prompt.{Prompt}
 use Rattle.bx_editor.specs.declared.questions.answers.Prompt.TheVariants as prompts
-use Rattle.bx_editor.specs.declared.message.Message.TheVariants.{TextFull}
+use Rattle.bx_editor.specs.declared.message.Message.TheVariants.{Pasting, ViewOnly}
 use Rattle.bx_editor.specs.declared.search_state.SearchState.{SearchState}
 use Rattle.bx_editor.specs.declared.search_state.SearchState.TheVariants.{Off, Begun, Typed, WithBegun, WithTyped, Replacing}
-use Rattle.bx_editor.specs.Editor.{Editor, cleared, with_insertion}
-use Rattle.bx_editor.specs.Effects.{Before, before, goal_behind}
-use Rattle.bx_editor.specs.Keys.{Answer, Letter, Shortens, GoesBack, Next, Previous, Replaces, Stays, Ends, after_any, after_in_paste, after_key, after_press}
-use Rattle.bx_editor.specs.Keys.{after_user, answer_of, answered}
-use Rattle.bx_editor.specs.Putting.{ended_with, paste_begun, paste_ended, with_paste, with_pasted, without_paste, has_room, is_paste}
-use Rattle.bx_editor.specs.Putting.{only_paste, put_in, with_selection_replaced}
+use Rattle.bx_editor.specs.Answering.{answer_of, without_line}
+use Rattle.bx_editor.specs.Before.{Before, before}
+use Rattle.bx_editor.specs.Clicks.{clicks_behind, pressed_behind}
+use Rattle.bx_editor.specs.Editor.{Editor, cleared, unpressed, with_typing}
+use Rattle.bx_editor.specs.Effects.{Refuses, by}
+use Rattle.bx_editor.specs.InputLines.{ends_line, erases_nothing, is_at_end, is_no_letter, is_taken, line_lengthened, line_shortened}
+use Rattle.bx_editor.specs.Keys.{after_any, after_in_paste, after_key, after_press, after_user, answered, answered_question, as_left, ends_name, is_save, is_typed, overwrites}
+use Rattle.bx_editor.specs.Keys.{refuses_replacing, saving_by}
+use Rattle.bx_editor.specs.LinePuts.{after_line_put}
+use Rattle.bx_editor.specs.Putting.{after_paste_start, ended_with, is_paste, paste_begun, paste_ended, refuses_paste, with_paste, with_pasted, without_paste, put_in}
 use Rattle.bx_editor.specs.Replacing.{after_asking_replacement, after_sought_end, after_sought_letter, is_replacing}
-use Rattle.bx_editor.specs.Search.{after_letter, is_no_letter, kept, lengthened, longest_query, search_from, with_query, without_search}
-use Rattle.bx_editor.specs.Region.{is_selection, soft_behind}
+use Rattle.bx_editor.specs.RowMoves.{goal_behind}
+use Rattle.bx_editor.specs.Saving.{Saving, can_save, confirms, is_empty_name, is_nameless, own_saving, saving_over, saving_under}
+use Rattle.bx_editor.specs.Search.{after_erasing_query, after_letter, kept, longest_query, query_line, search_on, with_query, without_search}
+use Rattle.bx_editor.specs.Region.{soft_behind}
 use Rattle.bx_editor.proofs.InSearch.{each-key, pressed-key}
-use Rattle.bx_session_laws.proofs.Lasting.{Lasting, Serves, lasting, having}
-use Rattle.bx_session_laws.proofs.Alike.{Alike, Deed, Work, after_deed, after_deeds, either_alike, going_on, idle, pressed_alike, put_in_alike, work}
-use Rattle.bx_session_laws.proofs.AskedAlike.{question_alike}
-use Rattle.bx_session_laws.proofs.ReplacingAlike.{asking_alike, match_alike, replacement_alike}
+use Rattle.bx_session.proofs.Ending.{Place, over, ready_stores, same_place}
+use Rattle.bx_session.proofs.KeyKinds.{stores}
+use Rattle.bx_session.proofs.KeySizes.{ended_top}
+use Rattle.bx_session.specs.Parts.{is_quit}
+use Rattle.bx_session_laws.specs.Recovery.{PastesAlone}
+use Rattle.bx_session_laws.proofs.Lasting.{Lasting, Presses, RestsAlike, Serves, answer_rests, answer_rests_alone, having, lasting, own, refuses_alike, scrolls}
+use Rattle.bx_session_laws.proofs.Alike.{Alike, either_alike, going_on, idle, idle_on, pressed_alike, put_in_alike}
+use Rattle.bx_session_laws.proofs.AskedAlike.{Unsaved, name_alike, overwrite_alike, question_alike, scrolled_alike, taking_alike}
+use Rattle.bx_session_laws.proofs.PutAlike.{letter_alike, line_put_in_alike, then_alike}
+use Rattle.bx_session_laws.proofs.ReplacingAlike.{asking_alike, ends_search_alike, match_alike, replacement_alike}
 
 -- ---- a key in a search
 
-letter_alike : (d : Data) (e f : Editor) (c : ℕ) → Alike e (after_letter d e c) (having (lasting e) f) (after_letter d (having (lasting e) f) c)
-letter_alike d e f c =
+erasing_query_alike : (d : Data) (e f : Editor) (how : Erasure)
+    → Alike e (after_erasing_query d e how) (having (lasting e) f) (after_erasing_query d (having (lasting e) f) how)
+erasing_query_alike d e f how =
     let g = having (lasting e) f in
-    let longer : Editor → Editor = λ x. search_from d x.place (with_query x (lengthened longest_query (kept x.search_state x.query) c)) in
-    either_alike (is_no_letter d c) e e (longer e) g g (longer g) (idle e e g g refl refl refl) (idle e (longer e) g (longer g) refl refl refl)
+    let shorter : Editor → Editor = λ x. search_on d false (with_query x (line_shortened d how (query_line e))) in
+    either_alike (erases_nothing d how (query_line e)) e e (shorter e) g g (shorter g) (idle e e g g refl refl refl)
+    (idle e (shorter e) g (shorter g) refl refl refl)
 
--- a line end, which may begin a paste
-end_alike : (d : Data) (typing : Typing) (e f : Editor) → Alike e (after_sought_end d typing e) (having (lasting e) f) (after_sought_end d typing (having (lasting e) f))
-end_alike d typing e f =
+end_alike : (d : Data) (e f : Editor) → Alike e (after_sought_end d e) (having (lasting e) f) (after_sought_end d (having (lasting e) f))
+end_alike d e f =
     let g = having (lasting e) f in
-    let left : Editor → Editor = λ x. without_search x in
-    let begun : Editor → Editor = λ x. with_paste (without_search x) in
-    either_alike (is_replacing e.purpose) e (if is_paste typing then e else after_asking_replacement d e) (if is_paste typing then begun e else left e) g
-    (if is_paste typing then g else after_asking_replacement d g) (if is_paste typing then begun g else left g)
-    (either_alike (is_paste typing) e e (after_asking_replacement d e) g g (after_asking_replacement d g) (idle e e g g refl refl refl) (asking_alike d e f))
-    (either_alike (is_paste typing) e (begun e) (left e) g (begun g) (left g) (idle e (begun e) g (begun g) refl refl refl)
-    (idle e (left e) g (left g) refl refl refl))
+    either_alike (is_replacing e.purpose) e (after_asking_replacement d e) (without_search e) g (after_asking_replacement d g) (without_search g)
+    (asking_alike d e f) (idle e (without_search e) g (without_search g) refl refl refl)
 
-sought_letter_alike : (d : Data) (typing : Typing) (e f : Editor) (c : ℕ)
-    → Alike e (after_sought_letter d typing e c) (having (lasting e) f) (after_sought_letter d typing (having (lasting e) f) c)
-sought_letter_alike d typing e f c =
+sought_letter_alike : (d : Data) (e f : Editor) (c : ℕ)
+    → Alike e (after_sought_letter d e c) (having (lasting e) f) (after_sought_letter d (having (lasting e) f) c)
+sought_letter_alike d e f c =
     let g = having (lasting e) f in
-    either_alike (c == 0xA) e (after_sought_end d typing e) (after_letter d e c) g (after_sought_end d typing g) (after_letter d g c)
-    (end_alike d typing e f) (letter_alike d e f c)
+    either_alike (c == 0xA) e (after_sought_end d e) (after_letter d e c) g (after_sought_end d g) (after_letter d g c)
+    (end_alike d e f) (letter_alike d e f c)
 
-over : (e new f new' : Editor) → Alike e new f new' → Alike e (without_search new) f (without_search new')
-over e new f new' h = record {
-  lasts = ap (λ (l : Lasting). record l { search_state = Off }) h.lasts;
-  deeds = h.deeds;
-  first = h.first;
-  other = h.other;
-}
-
-answered_alike : (d : Data) (fault : Option StoreFault) (was was' : Before) (e f : Editor) (key : Key) (answer : Answer) → Serves e f key
+answered_alike : (d : Data) (fault : Option StoreFault) (was was' : Before) (e f : Editor) (key : Key) (answer : Answer) → Presses e f key
+    → (scrolls answer ≡ false) ⊎ (f.top ≡ e.top) → Alike e (after_line_put d e) (having (lasting e) f) (after_line_put d (having (lasting e) f))
     → Alike e (answered d fault was e key answer) (having (lasting e) f)
     (answered d None (record was' { typing = was.typing }) (having (lasting e) f) key answer)
-answered_alike d fault was was' e f key (Letter c) other =
+answered_alike d fault was was' e f key (Letter c) h r put =
     let g = having (lasting e) f in
-    going_on (only_paste was.typing) e (after_sought_letter d was.typing e c) g (after_sought_letter d was.typing g c) (sought_letter_alike d was.typing e f c)
-answered_alike d fault was was' e f key Shortens other = record { lasts = refl; deeds = []; first = refl; other = refl }
-answered_alike d fault was was' e f key GoesBack other = record { lasts = refl; deeds = []; first = refl; other = refl }
-answered_alike d fault was was' e f key Next other = record { lasts = refl; deeds = []; first = refl; other = refl }
-answered_alike d fault was was' e f key Previous other = record { lasts = refl; deeds = []; first = refl; other = refl }
-answered_alike d fault was was' e f key Replaces other = asking_alike d e f
-answered_alike d fault was was' e f key Stays other = record { lasts = refl; deeds = []; first = refl; other = refl }
-answered_alike d fault was was' e f key Ends other = over e _ (having (lasting e) f) _ (pressed_alike d fault was was' e f key other)
+    taking_alike d was.typing c e (after_sought_letter d e c) g (after_sought_letter d g c) refl (λ taken. sought_letter_alike d e f c)
+answered_alike d fault was was' e f key (Erases how) h r put = erasing_query_alike d e f how
+answered_alike d fault was was' e f key (Moves m) h r put = record { lasts = refl; deeds = []; first = refl; other = refl }
+answered_alike d fault was was' e f key PutsIn h r put = put
+answered_alike d fault was was' e f key Passes h r put = record { lasts = refl; deeds = []; first = refl; other = refl }
+answered_alike d fault was was' e f key GoesBack h r put = record { lasts = refl; deeds = []; first = refl; other = refl }
+answered_alike d fault was was' e f key Next h r put = record { lasts = refl; deeds = []; first = refl; other = refl }
+answered_alike d fault was was' e f key Previous h r put = record { lasts = refl; deeds = []; first = refl; other = refl }
+answered_alike d fault was was' e f key Replaces h r put = asking_alike d e f
+answered_alike d fault was was' e f key (Scrolls way) h r put = scrolled_alike d was (record was' { typing = was.typing }) e f way r
+answered_alike d fault was was' e f key Stays h r put = record { lasts = refl; deeds = []; first = refl; other = refl }
+answered_alike d fault was was' e f key Ends h r put = ends_search_alike d fault was was' e f key h
 
--- ---- whether a search or a question is on or not
+-- ---- a key that stores nothing, by what is asked and sought
 
-any_alike : (d : Data) (fault : Option StoreFault) (was was' : Before) (prompt : Prompt) (search_state : SearchState) (e f : Editor) (key : Key) → Serves e f key
-    → Alike e (after_any d fault was prompt search_state e key) (having (lasting e) f)
-    (after_any d None (record was' { typing = was.typing }) prompt search_state (having (lasting e) f) key)
-any_alike d fault was was' prompts.Off Off e f key other = pressed_alike d fault was was' e f key other
-any_alike d fault was was' prompts.Off Begun e f key other = answered_alike d fault was was' e f key (answer_of key) other
-any_alike d fault was was' prompts.Off Typed e f key other = answered_alike d fault was was' e f key (answer_of key) other
-any_alike d fault was was' prompts.Off WithBegun e f key other = replacement_alike d fault was was' e f key (answer_of key) other
-any_alike d fault was was' prompts.Off WithTyped e f key other = replacement_alike d fault was was' e f key (answer_of key) other
-any_alike d fault was was' prompts.Off Replacing e f key other = match_alike d fault was was' e f key (answer_of key) other
-any_alike d fault was was' prompts.Line search_state e f key other = question_alike d fault was was' e f key (answer_of key) other
-any_alike d fault was was' prompts.Name search_state e f key other = question_alike d fault was was' e f key (answer_of key) other
-any_alike d fault was was' prompts.Code search_state e f key other = question_alike d fault was was' e f key (answer_of key) other
+-- where no paste is under way and this is asked
+abbrev StoresNothing : Editor → Prompt → Key → Type 0
+StoresNothing e prompt key = is_some (saving_by e prompt key (answer_of key)) ≡ false
+
+some_if : (b : Bool) (saving : Saving) → is_some (if b then Some saving else None) ≡ false → b ≡ false
+some_if true saving h = absurd (cc h)
+some_if false saving h = refl
+
+-- a letter that completes no name
+typed_by : (c : Bool) (is_typed empty taken : Bool) → (taken ≡ true → c ≡ true → is_typed ≡ true) → (c && is_typed && not empty) ≡ false → taken ≡ true
+    → (c && not empty) ≡ false
+typed_by true true empty taken h k t = k
+typed_by true false empty taken h k t = let both : false ≡ true = h t refl in absurd (cc both)
+typed_by false is_typed empty taken h k t = refl
+
+-- a pasted line end is not taken
+taken_typed : (d : Data) (typing : Typing) (c : ℕ) → is_taken d typing c ≡ true → (c == 0xA) ≡ true → is_typed typing ≡ true
+taken_typed d typings.Paste c taken ends =
+    let both : false ≡ true = sym (ap (λ b. not (b || is_separator (d.class c))) ends) ∙ taken in absurd (cc both)
+taken_typed d typings.Spent c taken ends = absurd (cc taken)
+taken_typed d typing c taken ends = refl
+
+unsaved_name : (d : Data) (e : Editor) (key : Key) (c : ℕ) → StoresNothing e prompts.File key → answer_of key ≡ Letter c → is_taken d e.typing c ≡ true
+    → ((c == 0xA) && not (length e.answer == 0)) ≡ false
+unsaved_name d e key c none letter taken =
+    let by_letter : is_some (saving_by e prompts.File key (Letter c)) ≡ false = subst (λ a. is_some (saving_by e prompts.File key a) ≡ false) letter none in
+    typed_by (c == 0xA) (is_typed e.typing) (length e.answer == 0) (is_taken d e.typing c) (taken_typed d e.typing c)
+    (some_if (ends_name e c) (saving_under e e.answer) by_letter) taken
+
+undecided_letter : (e : Editor) (key : Key) (c : ℕ) → StoresNothing e prompts.Overwrite key → answer_of key ≡ Letter c
+    → (confirms c && not (is_paste e.typing) && can_save e) ≡ false
+undecided_letter e key c none letter =
+    some_if (overwrites e c) (saving_over e) (subst (λ a. is_some (saving_by e prompts.Overwrite key a) ≡ false) letter none)
+
+-- a Save that stores nothing, where it does not only decline to overwrite
+save_at : (e : Editor) (prompt : Prompt) → (prompt ≡ prompts.Overwrite → ⊥) → is_some (saving_by e prompt Save Ends) ≡ false → can_save e ≡ false
+save_at e prompts.Off other h = some_if (can_save e) (own_saving e e.name) h
+save_at e prompts.Line other h = some_if (can_save e) (own_saving e e.name) h
+save_at e prompts.Name other h = some_if (can_save e) (own_saving e e.name) h
+save_at e prompts.Code other h = some_if (can_save e) (own_saving e e.name) h
+save_at e prompts.File other h = some_if (can_save e) (own_saving e e.name) h
+save_at e prompts.Overwrite other h = absurd (other refl)
+
+saves_nothing : (e : Editor) (prompt : Prompt) (key : Key) → (prompt ≡ prompts.Overwrite → ⊥) → StoresNothing e prompt key → is_save key ≡ true
+    → can_save e ≡ false
+saves_nothing e prompt Save other h is = save_at e prompt other h
+saves_nothing e prompt key other h is = absurd (cc is)
+
+-- ---- whether a search or a question is on or not; `e` is the editor before the key
+
+module _ (d : Data) (fault : Option StoreFault) (was : Before) (e f : Editor) (key : Key) (goes_on : is_quit (Some key) ≡ false)
+    (rests : RestsAlike e f key) (names : is_nameless f ≡ is_nameless e) where
+  abbrev old : Editor
+  old = cleared e
+
+  abbrev other : Editor
+  other = having (lasting old) (cleared f)
+
+  abbrev was' : Before
+  was' = record was { typing = e.typing }
+
+  presses : (prompt : Prompt) → (prompt ≡ prompts.Overwrite → ⊥) → StoresNothing e prompt key → Presses old (cleared f) key
+  presses prompt asks none =
+      record { goes_on = goes_on; saves_nothing = saves_nothing e prompt key asks none; rests = rests; names = names }
+
+  put : Alike old (after_line_put d old) other (after_line_put d other)
+  put = line_put_in_alike d old (cleared f)
+
+  asked : (prompt : Prompt) → (prompt ≡ prompts.Overwrite → ⊥) → e.prompt ≡ prompt → StoresNothing e prompt key
+      → Alike old (answered_question d fault (before e) old key (answer_of key)) other (answered_question d None was' other key (answer_of key))
+  asked prompt asks is none =
+      question_alike d fault (before e) was old (cleared f) key (answer_of key) (presses prompt asks none) (answer_rests e f key rests)
+      (λ c letter taken is_file. unsaved_name d e key c (subst (λ p. StoresNothing e p key) (sym is ∙ is_file) none) letter taken) put
+
+  any_alike : (prompt : Prompt) (search_state : SearchState) → e.prompt ≡ prompt → StoresNothing e prompt key
+      → Alike old (after_any d fault (before e) prompt search_state old key) other (after_any d None was' prompt search_state other key)
+  any_alike prompts.Off Off is none = pressed_alike d fault (before e) was old (cleared f) key (presses prompts.Off (λ x. cc x) none)
+  any_alike prompts.Off Begun is none =
+      answered_alike d fault (before e) was old (cleared f) key (answer_of key) (presses prompts.Off (λ x. cc x) none) (answer_rests e f key rests) put
+  any_alike prompts.Off Typed is none =
+      answered_alike d fault (before e) was old (cleared f) key (answer_of key) (presses prompts.Off (λ x. cc x) none) (answer_rests e f key rests) put
+  any_alike prompts.Off WithBegun is none =
+      replacement_alike d fault (before e) was old (cleared f) key (answer_of key) (presses prompts.Off (λ x. cc x) none) (answer_rests e f key rests) put
+  any_alike prompts.Off WithTyped is none =
+      replacement_alike d fault (before e) was old (cleared f) key (answer_of key) (presses prompts.Off (λ x. cc x) none) (answer_rests e f key rests) put
+  any_alike prompts.Off Replacing is none =
+      match_alike d fault (before e) was old (cleared f) key (without_line (answer_of key)) (presses prompts.Off (λ x. cc x) none)
+      (answer_rests_alone e f key rests)
+  any_alike prompts.Line search_state is none = asked prompts.Line (λ x. cc x) is none
+  any_alike prompts.Name search_state is none =
+      name_alike d fault (before e) was old (cleared f) key (without_line (answer_of key)) (presses prompts.Name (λ x. cc x) none)
+      (answer_rests_alone e f key rests)
+  any_alike prompts.Code search_state is none = asked prompts.Code (λ x. cc x) is none
+  any_alike prompts.File search_state is none = asked prompts.File (λ x. cc x) is none
+  any_alike prompts.Overwrite search_state is none =
+      overwrite_alike fault (before e) was old (cleared f) (answer_of key) names (λ c letter. undecided_letter e key c none letter)
 
 -- ---- a key where no paste is under way, or once it has ended
 
-user_alike : (d : Data) (fault : Option StoreFault) (e f : Editor) (key : Key) → Serves e f key
-    → Alike e (after_user d fault e key) (having (lasting e) f) (after_user d None (having (lasting e) f) key)
-user_alike d fault e f key other =
-    let h = any_alike d fault (before e) (before f) e.prompt e.search_state (cleared e) (cleared f) key other in record {
-      lasts = ap (λ (l : Lasting). record l { goal = goal_behind key l.goal; soft = soft_behind key l.soft }) h.lasts;
-      deeds = h.deeds;
-      first = h.first;
-      other = h.other;
-    }
+left_alike : (key : Key) (e new f new' : Editor) → Alike e new f new' → Alike e (as_left key new) f (as_left key new')
+left_alike key e new f new' h =
+    idle_on e new (as_left key new) f new' (as_left key new') (λ (l : Lasting). record l {
+      goal = goal_behind key l.goal;
+      soft = soft_behind key l.soft;
+      clicks = clicks_behind key l.clicks;
+      pressed = pressed_behind key l.pressed;
+    }) refl refl refl refl h
+
+uncleared : (e new f new' : Editor) → Alike (cleared e) new (cleared f) new' → Alike e new f new'
+uncleared e new f new' h = record { lasts = h.lasts; deeds = h.deeds; first = h.first; other = h.other }
+
+user_alike : (d : Data) (fault : Option StoreFault) (e f : Editor) (key : Key) → is_quit (Some key) ≡ false → StoresNothing e e.prompt key → RestsAlike e f key
+    → is_nameless f ≡ is_nameless e → Alike e (after_user d fault e key) (having (lasting e) f) (after_user d None (having (lasting e) f) key)
+user_alike d fault e f key goes_on none rests names =
+    let g = having (lasting e) f in
+    let any = any_alike d fault (before f) e f key goes_on rests names e.prompt e.search_state refl none in
+    let refused : Editor → Editor = λ x. by d None (before x) (cleared x) Refuses in
+    let pressed = after_any d fault (before e) e.prompt e.search_state (cleared e) key in
+    let pressed' = after_any d None (before g) e.prompt e.search_state (cleared g) key in
+    left_alike key e (if refuses_replacing e key then refused e else pressed) g (if refuses_replacing g key then refused g else pressed')
+    (subst (λ b. Alike e (if refuses_replacing e key then refused e else pressed) g (if b then refused g else pressed')) (sym (refuses_alike e f key))
+    (either_alike (refuses_replacing e key) e (refused e) pressed g (refused g) pressed' (idle e (refused e) g (refused g) refl refl refl)
+    (uncleared e pressed g pressed' any)))
 
 -- ---- a paste
 
@@ -123,19 +231,9 @@ ended_by d e f (Some list) = list_alike d e f list
 pub ended_alike : (d : Data) (e f : Editor) → Alike e (paste_ended d e) (having (lasting e) f) (paste_ended d (having (lasting e) f))
 ended_alike d e f = ended_by d e f e.pasted
 
--- its end leaves the top
-if_top : (b : Bool) (p q : Editor) (top : ℕ) → p.top ≡ top → q.top ≡ top → (if b then p else q).top ≡ top
-if_top true p q top h k = h
-if_top false p q top h k = k
-
-top_by : (d : Data) (e : Editor) (pasted : Option (List ℕ)) → (ended_with d e pasted).top ≡ e.top
-top_by d e None = refl
-top_by d e (Some list) =
-    let left = without_paste e in
-    if_top (length list == 0) left (put_in d left list false) e.top refl
-    (if_top (has_room left list) (if is_selection left then with_selection_replaced d left list else with_insertion d left list false)
-    (record left { message = Some TextFull }) e.top
-    (if_top (is_selection left) (with_selection_replaced d left list) (with_insertion d left list false) e.top refl refl) refl)
+unpressed_alike : (e new f new' : Editor) → Alike e new f new' → Alike e (unpressed new) f (unpressed new')
+unpressed_alike e new f new' h =
+    idle_on e new (unpressed new) f new' (unpressed new') (λ (l : Lasting). record l { clicks = None; pressed = None }) refl refl refl refl h
 
 begun_alike : (e f : Editor) (prompt : Prompt) (search_state : SearchState) (pasted : Option (List ℕ))
     → Alike e (paste_begun prompt search_state pasted e) (having (lasting e) f) (paste_begun prompt search_state pasted (having (lasting e) f))
@@ -149,55 +247,87 @@ begun_alike e f prompts.Off Replacing pasted = record { lasts = refl; deeds = []
 begun_alike e f prompts.Line search_state pasted = record { lasts = refl; deeds = []; first = refl; other = refl }
 begun_alike e f prompts.Name search_state pasted = record { lasts = refl; deeds = []; first = refl; other = refl }
 begun_alike e f prompts.Code search_state pasted = record { lasts = refl; deeds = []; first = refl; other = refl }
+begun_alike e f prompts.File search_state pasted = record { lasts = refl; deeds = []; first = refl; other = refl }
+begun_alike e f prompts.Overwrite search_state pasted = record { lasts = refl; deeds = []; first = refl; other = refl }
 
--- deeds after deeds
-deeds_on : (one more : List Deed) (w : Work) → after_deeds (one ++ more) w ≡ after_deeds more (after_deeds one w)
-deeds_on [] more w = refl
-deeds_on (deed ∷ one) more w = deeds_on one more (after_deed deed w)
+start_alike : (e f : Editor) → Alike e (after_paste_start e) (having (lasting e) f) (after_paste_start (having (lasting e) f))
+start_alike e f =
+    let g = having (lasting e) f in
+    let refused : Editor → Editor = λ x. unpressed (record x { message = Some ViewOnly }) in
+    let begun : Editor → Editor = λ x. paste_begun e.prompt e.search_state e.pasted x in
+    let typed : Editor → Editor = λ x. with_typing (begun x) typings.Paste in
+    either_alike (refuses_paste e) e (refused e) (unpressed (typed e)) g (refused g) (unpressed (typed g)) (idle e (refused e) g (refused g) refl refl refl)
+    (unpressed_alike e (typed e) g (typed g) (going_on typings.Paste e (begun e) g (begun g) (begun_alike e f e.prompt e.search_state e.pasted)))
 
-then_alike : (e mid new f mid' new' : Editor) → Alike e mid f mid' → Alike mid new mid' new' → Alike e new f new'
-then_alike e mid new f mid' new' one more = record {
-  lasts = more.lasts;
-  deeds = one.deeds ++ more.deeds;
-  first = more.first ∙ ap (after_deeds more.deeds) one.first ∙ sym (deeds_on one.deeds more.deeds (work e));
-  other = more.other ∙ ap (after_deeds more.deeds) one.other ∙ sym (deeds_on one.deeds more.deeds (work f));
-}
+-- where no paste is under way
+stores_at : (pasted : Option (List ℕ)) (save : Bool) (saving : Option Saving) → pasted ≡ None → is_some (if is_some pasted && not save then None else saving) ≡ false
+    → is_some saving ≡ false
+stores_at None save saving none h = h
+stores_at (Some list) save saving none h = absurd (cc none)
+
+unpasted : (e : Editor) (key : Key) → e.pasted ≡ None → stores e key ≡ false → StoresNothing e e.prompt key
+unpasted e key none h = stores_at e.pasted (is_save key) (saving_by e e.prompt key (answer_of key)) none h
+
+-- where one is, nothing is asked
+none_if : (b can : Bool) (saving : Saving) → b ≡ false → is_some (if b && can then Some saving else None) ≡ false
+none_if true can saving h = absurd (cc h)
+none_if false can saving h = refl
+
+unasked : (e : Editor) (key : Key) → e.prompt ≡ prompts.Off → is_save key ≡ false → StoresNothing e e.prompt key
+unasked e key off other =
+    subst (λ prompt. StoresNothing e prompt key) (sym off) (none_if (is_save key) (can_save e) (own_saving e e.name) other)
+
+-- once the paste has ended
+ended_stores : (d : Data) (e : Editor) (key : Key) → e.prompt ≡ prompts.Off → stores e key ≡ false
+    → let x : Editor = paste_ended d e in StoresNothing x x.prompt key
+ended_stores d e Save off h = let x : Editor = paste_ended d e in unpasted x Save (over d e) (ready_stores d e Save ∙ h)
+ended_stores d e key off h = let x : Editor = paste_ended d e in unasked x key (ap (λ (at : Place). at.prompt) (same_place d e) ∙ off) refl
+
+rests_ended : (d : Data) (e f : Editor) (key : Key) → RestsAlike e f key → RestsAlike (paste_ended d e) (paste_ended d (having (lasting e) f)) key
+rests_ended d e f key (inl none) = inl none
+rests_ended d e f key (inr same) = inr (ended_top d (having (lasting e) f) ∙ same ∙ sym (ended_top d e))
+
+names_ended : (d : Data) (e : Editor) → is_nameless (paste_ended d e) ≡ is_nameless e
+names_ended d e = ap (λ (at : Place). is_empty_name at.name) (same_place d e)
 
 -- a key that ends a paste
-ends_alike : (d : Data) (fault : Option StoreFault) (e f : Editor) (key : Key) → Serves e f key → let g = having (lasting e) f in
+ends_alike : (d : Data) (fault : Option StoreFault) (e f : Editor) (key : Key) → e.prompt ≡ prompts.Off → Serves e f key → let g = having (lasting e) f in
     Alike e (after_user d fault (paste_ended d e) key) g (after_user d None (paste_ended d g) key)
-ends_alike d fault e f key other =
+ends_alike d fault e f key off h =
     let g = having (lasting e) f in
-    let x = paste_ended d e in
-    let y = paste_ended d g in
+    let x : Editor = paste_ended d e in
+    let y : Editor = paste_ended d g in
     let one = ended_alike d e f in
-    let serves : Serves x y key = (other.0, ⊎_elim (λ none. inl none) (λ same. inr (top_by d g e.pasted ∙ same ∙ sym (top_by d e e.pasted))) other.1) in
-    let own : having (lasting x) y ≡ y = ap (λ l. having l y) one.lasts in
-    let more = subst (λ (z : Editor). Alike x (after_user d fault x key) z (after_user d None z key)) own (user_alike d fault x y key serves) in
+    let names : is_nameless y ≡ is_nameless x = names_ended d g ∙ h.names ∙ sym (names_ended d e) in
+    let pressed = user_alike d fault x y key h.goes_on (ended_stores d e key off h.stores_nothing) (rests_ended d e f key h.rests) names in
+    let more = subst (λ (z : Editor). Alike x (after_user d fault x key) z (after_user d None z key)) (own x y one.lasts) pressed in
     then_alike e x (after_user d fault x key) g y (after_user d None y key) one more
 
-in_paste_alike : (d : Data) (fault : Option StoreFault) (e f : Editor) (key : Key) → Serves e f key
+in_paste_alike : (d : Data) (fault : Option StoreFault) (e f : Editor) (key : Key) → e.prompt ≡ prompts.Off → Serves e f key
     → Alike e (after_in_paste d fault e key) (having (lasting e) f) (after_in_paste d None (having (lasting e) f) key)
-in_paste_alike d fault e f (Insert c) other = record { lasts = refl; deeds = []; first = refl; other = refl }
-in_paste_alike d fault e f Repaint other = user_alike d fault e f Repaint other
-in_paste_alike d fault e f key other = ends_alike d fault e f key other
+in_paste_alike d fault e f (Insert c) off h = record { lasts = refl; deeds = []; first = refl; other = refl }
+in_paste_alike d fault e f Repaint off h = user_alike d fault e f Repaint refl (unasked e Repaint off refl) h.rests h.names
+in_paste_alike d fault e f key off h = ends_alike d fault e f key off h
 
-press_alike : (d : Data) (fault : Option StoreFault) (e f : Editor) (key : Key) (pasted : Option (List ℕ)) → Serves e f key
+press_alike : (d : Data) (fault : Option StoreFault) (e f : Editor) (key : Key) (pasted : Option (List ℕ)) → e.pasted ≡ pasted → PastesAlone e → Serves e f key
     → Alike e (after_press d fault pasted e key) (having (lasting e) f) (after_press d None pasted (having (lasting e) f) key)
-press_alike d fault e f key None other = user_alike d fault e f key other
-press_alike d fault e f key (Some list) other = in_paste_alike d fault e f key other
+press_alike d fault e f key None is alone h = user_alike d fault e f key h.goes_on (unpasted e key is h.stores_nothing) h.rests h.names
+press_alike d fault e f key (Some list) is alone h =
+    in_paste_alike d fault e f key (alone (λ none. let both : Some list ≡ None = sym is ∙ none in cc both)).0 h
 
--- ---- any key that is neither Save nor Quit
+-- ---- any key
 
-pub key_alike : (d : Data) (fault : Option StoreFault) (e f : Editor) (key : Key) → Serves e f key
+pub key_alike : (d : Data) (fault : Option StoreFault) (e f : Editor) (key : Key) → PastesAlone e → Serves e f key
     → Alike e (after_key d fault e key) (having (lasting e) f) (after_key d None (having (lasting e) f) key)
-key_alike d fault e f =
+key_alike d fault e f key alone =
     let g = having (lasting e) f in
     each-key d fault e (λ key new. Serves e f key → Alike e new g (after_key d None g key))
-    (λ height width other. record { lasts = refl; deeds = []; first = refl; other = refl })
-    (λ notice other. record { lasts = refl; deeds = []; first = refl; other = refl }) (
-      λ other.
-          going_on typings.Paste e (paste_begun e.prompt e.search_state e.pasted e) g (paste_begun e.prompt e.search_state e.pasted g) (begun_alike e f e.prompt e.search_state e.pasted),
-      λ other. going_on typings.Off e (paste_ended d e) g (paste_ended d g) (ended_alike d e f),
+    (λ height width h. record { lasts = refl; deeds = []; first = refl; other = refl })
+    (λ notice h. record { lasts = refl; deeds = []; first = refl; other = refl })
+    (λ h. record { lasts = refl; deeds = []; first = refl; other = refl }) (
+      λ h. start_alike e f,
+      λ h. unpressed_alike e (with_typing (paste_ended d e) typings.Off) g (with_typing (paste_ended d g) typings.Off)
+          (going_on typings.Off e (paste_ended d e) g (paste_ended d g) (ended_alike d e f)),
     )
-    (λ key small other. subst (Alike e (after_press d fault e.pasted e key) g) (sym (pressed-key d None g key small)) (press_alike d fault e f key e.pasted other))
+    (λ k small h. subst (Alike e (after_press d fault e.pasted e k) g) (sym (pressed-key d None g k small))
+    (press_alike d fault e f k e.pasted refl alone h)) key

@@ -14,6 +14,7 @@ use Rattle.bx_store.specs.Stores.{no_faults}
 use Rattle.bx_text.specs.Edits.{Edited}
 use Rattle.bx_editor.specs.Editor.{Editor}
 use Rattle.bx_editor.specs.Functions.{HasRows}
+use Rattle.bx_editor.specs.Settings.{plain}
 use Rattle.bx_editor.proofs.Computed.{tables, ascii_columns}
 use Rattle.bx_session.specs.declared.status.Refused.{Refused}
 use Rattle.bx_session.specs.declared.status.Refused.TheVariants.{Edit, Paint}
@@ -23,8 +24,8 @@ use Rattle.bx_session_laws.specs.Anew.{AlwaysStaysPainted}
 use Rattle.bx_session.specs.Beginning.{Beginning, at_offset, begun, unpainted_at}
 use Rattle.bx_session.specs.Journal.{RecorderState, RunsRecorded}
 use Rattle.bx_session.specs.Laws.{AlwaysShowsState, HasKeysOfInput, ReplaysKeys, after_journal, after_replaying, keys_from}
-use Rattle.bx_session_laws.specs.Recovery.{HasAll, HasBackMidway, HaveRows, IsSettled, JournalsGiveBack, PointsAsSeen, RecoveryGivesBack, RefusesNoKey}
-use Rattle.bx_session_laws.specs.Recovery.{RefusesNoPainting, is_point, once_pasted}
+use Rattle.bx_session_laws.specs.Recovery.{FindsNoChange, HasAll, HasBackMidway, HaveRows, IsSettled, JournalsGiveBack, PointsAsSeen, RecoveryGivesBack, RefusesNoKey}
+use Rattle.bx_session_laws.specs.Recovery.{RefusesNoPainting, rests_on_top, once_pasted}
 use Rattle.bx_session.specs.Running.{ByteAnswer, FeedsAll, bytes_of}
 use Rattle.bx_session.specs.Session.{StoreState, Session, after_byte, after_sending, owing_after_byte, with_painting}
 use Rattle.bx_session.proofs.Computed.{start, csi}
@@ -57,25 +58,25 @@ saves_and_quits_are_passed_over law = ap (λ (e : Editor). e.content.text) (law 
 
 -- ---- recovery
 
--- no key points at a row of the picture
+-- no key rests on a row of the picture
 abbrev none_point : List Key → Bool
 none_point [] = true
-none_point (key ∷ keys) = not (is_point key) && none_point keys
+none_point (key ∷ keys) = not (rests_on_top key) && none_point keys
 
 first_no : (b c : Bool) → (not b && c) ≡ true → (b ≡ false) × (c ≡ true)
 first_no true c h = absurd (cc h)
 first_no false c h = (refl, h)
 
-no_points : (keys : List Key) → none_point keys ≡ true → All (λ (key : Key). is_point key ≡ false) keys
-no_points [] h = All-nil (λ (key : Key). is_point key ≡ false)
+no_points : (keys : List Key) → none_point keys ≡ true → All (λ (key : Key). rests_on_top key ≡ false) keys
+no_points [] h = All-nil (λ (key : Key). rests_on_top key ≡ false)
 no_points (key ∷ keys) h =
-    let both = first_no (is_point key) (none_point keys) h in
-    All-cons (λ (key : Key). is_point key ≡ false) key keys both.0 (no_points keys both.1)
+    let both = first_no (rests_on_top key) (none_point keys) h in
+    All-cons (λ (key : Key). rests_on_top key ≡ false) key keys both.0 (no_points keys both.1)
 
 no_points_in : (bytes keys : List ℕ) → bytes ≡ keys → none_point (keys_from [] keys) ≡ true
-    → All (λ (key : Key). is_point key ≡ false) (keys_from [] bytes)
+    → All (λ (key : Key). rests_on_top key ≡ false) (keys_from [] bytes)
 no_points_in bytes keys is none =
-    subst (λ xs. All (λ (key : Key). is_point key ≡ false) (keys_from [] xs)) (sym is) (no_points (keys_from [] keys) none)
+    subst (λ xs. All (λ (key : Key). rests_on_top key ≡ false) (keys_from [] xs)) (sym is) (no_points (keys_from [] keys) none)
 
 -- a session's text once a paste that is under way has ended
 abbrev text_of : Session → List ℕ
@@ -90,12 +91,12 @@ fed a save b undo = (0x61, a) ∷ (0x13, save) ∷ (0x62, b) ∷ (0x1a, undo) �
 
 -- a session that was fed them and refused no key has the text of their replay, whatever its other answers
 pub a_save_is_no_end_of_the_past : RecoveryGivesBack → (store store' : StoreState) (a save b undo : Result Status Refused) (new : Session)
-    → FeedsAll tables (start (codes "x") 1 5) store (fed a save b undo) new store' → RefusesNoKey (fed a save b undo)
-    → text_of new ≡ codes "ax"
+    → (feeds : FeedsAll tables (start (codes "x") 1 5) store (fed a save b undo) new store') → RefusesNoKey (fed a save b undo)
+    → FindsNoChange tables (start (codes "x") 1 5) store (fed a save b undo) new store' feeds → text_of new ≡ codes "ax"
 unfolding unicode_segmentation unicode_width digits
-a_save_is_no_end_of_the_past law store store' a save b undo new feeds none =
+a_save_is_no_end_of_the_past law store store' a save b undo new feeds none same =
     let keys = no_points_in (bytes_of (fed a save b undo)) input refl refl in
-    ap (λ (t : Edited). t.text) (sym (law.gives_back tables (codes "x") 1 5 Auto store store' (fed a save b undo) new feeds none (inl keys)).content)
+    ap (λ (t : Edited). t.text) (sym (law.gives_back tables (codes "x") 1 5 Auto store store' (fed a save b undo) new feeds none same (inl keys)).content)
 
 -- Forward, Mark, Forward, Copy, Mark
 abbrev marked : List ℕ
@@ -103,13 +104,14 @@ marked = (0x06 ∷ csi (codes "72~")) ++ (0x06 ∷ csi (codes "73~")) ++ csi (co
 
 -- a session that was fed them over abc has the mark and the held bytes of their replay
 pub mark_and_held_bytes_come_back : RecoveryGivesBack → (store store' : StoreState) (answered : List ByteAnswer) (new : Session)
-    → bytes_of answered ≡ marked → FeedsAll tables (start (codes "abc") 1 5) store answered new store' → RefusesNoKey answered
+    → bytes_of answered ≡ marked → (feeds : FeedsAll tables (start (codes "abc") 1 5) store answered new store') → RefusesNoKey answered
+    → FindsNoChange tables (start (codes "abc") 1 5) store answered new store' feeds
     → ((once_pasted tables new).editor.mark ≡ Some 2) × ((once_pasted tables new).editor.held ≡ codes "b")
 unfolding unicode_segmentation unicode_width digits
-mark_and_held_bytes_come_back law store store' answered new fed_them feeds none =
+mark_and_held_bytes_come_back law store store' answered new fed_them feeds none same =
     let opened_at = start (codes "abc") 1 5 in
     let keys = no_points_in (bytes_of answered) marked fed_them refl in
-    let back = law.gives_back tables (codes "abc") 1 5 Auto store store' answered new feeds none (inl keys) in (
+    let back = law.gives_back tables (codes "abc") 1 5 Auto store store' answered new feeds none same (inl keys) in (
       sym back.mark ∙ ap (λ bytes. (after_journal tables opened_at bytes).editor.mark) fed_them,
       sym back.held ∙ ap (λ bytes. (after_journal tables opened_at bytes).editor.held) fed_them,
     )
@@ -158,23 +160,27 @@ is_fed = (
   ),
 )
 
+no_change : FindsNoChange tables (start (codes "x") 1 5) (storing []) (unpainted input) (of_x input) (storing (codes "ax")) is_fed
+no_change = (λ saves. refl, (λ saves. refl, (λ saves. refl, (λ saves. refl, tt))))
+
 has_text : text_of (of_x input) ≡ codes "ax"
 unfolding unicode_segmentation unicode_width digits
 has_text = refl
 
 -- the replay of what a session was fed has its text
 replays_to : RecoveryGivesBack → (store store' : StoreState) (answered : List ByteAnswer) (new : Session)
-    → FeedsAll tables (start (codes "x") 1 5) store answered new store' → RefusesNoKey answered
-    → All (λ (key : Key). is_point key ≡ false) (keys_from [] (bytes_of answered))
+    → (feeds : FeedsAll tables (start (codes "x") 1 5) store answered new store') → RefusesNoKey answered
+    → FindsNoChange tables (start (codes "x") 1 5) store answered new store' feeds
+    → All (λ (key : Key). rests_on_top key ≡ false) (keys_from [] (bytes_of answered))
     → (after_journal tables (start (codes "x") 1 5) (bytes_of answered)).editor.content.text ≡ text_of new
-replays_to law store store' answered new feeds none keys =
-    ap (λ (t : Edited). t.text) (law.gives_back tables (codes "x") 1 5 Auto store store' answered new feeds none (inl keys)).content
+replays_to law store store' answered new feeds none same keys =
+    ap (λ (t : Edited). t.text) (law.gives_back tables (codes "x") 1 5 Auto store store' answered new feeds none same (inl keys)).content
 
 pub its_replay_gives_the_text_back : RecoveryGivesBack → (after_journal tables (start (codes "x") 1 5) input).editor.content.text ≡ codes "ax"
 its_replay_gives_the_text_back law =
     let fed_them : bytes_of (unpainted input) ≡ input = refl in
     ap (λ bytes. (after_journal tables (start (codes "x") 1 5) bytes).editor.content.text) (sym fed_them)
-    ∙ replays_to law (storing []) (storing (codes "ax")) (unpainted input) (of_x input) is_fed (none_refused input)
+    ∙ replays_to law (storing []) (storing (codes "ax")) (unpainted input) (of_x input) is_fed (none_refused input) no_change
     (no_points_in (bytes_of (unpainted input)) input refl refl)
     ∙ has_text
 
@@ -185,15 +191,24 @@ a_refused_key_is_applied law = ap (λ (e : Editor). e.content.text) (law.applies
 
 -- recovered after a, painted, and fed b
 pub a_recovered_session_goes_on : RecoveryGivesBack → (store store' : StoreState) (b : Result Status Refused) (new : Session)
-    → FeedsAll tables (with_painting tables (after_replaying tables (start (codes "x") 1 5) (0x61 ∷ []))) store ((0x62, b) ∷ []) new store'
-    → RefusesNoKey ((0x62, b) ∷ []) → new.editor.content.text ≡ codes "abx"
+    → (feeds : FeedsAll tables (with_painting tables (after_replaying tables (start (codes "x") 1 5) (0x61 ∷ []))) store ((0x62, b) ∷ []) new store')
+    → RefusesNoKey ((0x62, b) ∷ [])
+    → FindsNoChange tables (with_painting tables (after_replaying tables (start (codes "x") 1 5) (0x61 ∷ []))) store ((0x62, b) ∷ []) new store' feeds
+    → new.editor.content.text ≡ codes "abx"
 unfolding unicode_segmentation unicode_width digits
-a_recovered_session_goes_on law store store' b new feeds none =
+a_recovered_session_goes_on law store store' b new feeds none same_file =
     let replayed = after_replaying tables (start (codes "x") 1 5) (0x61 ∷ []) in
     let same : HasBackMidway (with_painting tables replayed) replayed =
-    has_back (with_painting tables replayed) replayed (record { lasts = refl; rest_is = refl; goes_on = refl; one = λ asked. refl }) in
+    has_back (with_painting tables replayed) replayed (record {
+      lasts = refl;
+      rest_is = refl;
+      goes_on = refl;
+      one = λ asked. refl;
+      alone = λ some. (refl, refl);
+      names = record { nameless = refl; name = λ off. absurd (cc off); had_file = λ on. refl; replayed_file = λ on. refl };
+    }) in
     ap (λ (t : Edited). t.text)
-    (sym (law.keeps_up tables (with_painting tables replayed) replayed store store' ((0x62, b) ∷ []) new same feeds none
+    (sym (law.keeps_up tables (with_painting tables replayed) replayed store store' ((0x62, b) ∷ []) new same feeds none same_file
     (record { painted = refl; top = λ on. refl }) (inl (no_points (Insert 0x62 ∷ []) refl))).parts.content)
 
 -- PasteStart and c, over ab; the paste is not over yet
@@ -201,12 +216,12 @@ abbrev pasting : List ℕ
 pasting = csi (codes "90~") ++ codes "c"
 
 pub an_open_paste_comes_back : RecoveryGivesBack → (store store' : StoreState) (answered : List ByteAnswer) (new : Session)
-    → bytes_of answered ≡ pasting → FeedsAll tables (start (codes "ab") 1 5) store answered new store' → RefusesNoKey answered
-    → text_of new ≡ codes "cab"
+    → bytes_of answered ≡ pasting → (feeds : FeedsAll tables (start (codes "ab") 1 5) store answered new store') → RefusesNoKey answered
+    → FindsNoChange tables (start (codes "ab") 1 5) store answered new store' feeds → text_of new ≡ codes "cab"
 unfolding unicode_segmentation unicode_width digits
-an_open_paste_comes_back law store store' answered new fed_them feeds none =
+an_open_paste_comes_back law store store' answered new fed_them feeds none same =
     let keys = no_points_in (bytes_of answered) pasting fed_them refl in
-    let back = law.gives_back tables (codes "ab") 1 5 Auto store store' answered new feeds none (inl keys) in
+    let back = law.gives_back tables (codes "ab") 1 5 Auto store store' answered new feeds none same (inl keys) in
     ap (λ (t : Edited). t.text) (sym back.content)
     ∙ ap (λ bytes. (after_journal tables (start (codes "ab") 1 5) bytes).editor.content.text) fed_them
 
@@ -216,10 +231,10 @@ pointing = csi (codes "7;1;2t") ++ codes "c"
 
 pub a_row_pointed_at_comes_back : RecoveryGivesBack → (store store' : StoreState) (answered : List ByteAnswer) (new : Session)
     → bytes_of answered ≡ pointing → (feeds : FeedsAll tables (start (codes "ab") 1 5) store answered new store') → RefusesNoKey answered
-    → RefusesNoPainting answered → HaveRows tables (start (codes "ab") 1 5) store answered new store' feeds → text_of new ≡ codes "acb"
+    → FindsNoChange tables (start (codes "ab") 1 5) store answered new store' feeds → RefusesNoPainting answered → HaveRows tables (start (codes "ab") 1 5) store answered new store' feeds → text_of new ≡ codes "acb"
 unfolding unicode_segmentation unicode_width digits
-a_row_pointed_at_comes_back law store store' answered new fed_them feeds none paints have =
-    let back = law.gives_back tables (codes "ab") 1 5 Auto store store' answered new feeds none (inr (paints, have)) in
+a_row_pointed_at_comes_back law store store' answered new fed_them feeds none same paints have =
+    let back = law.gives_back tables (codes "ab") 1 5 Auto store store' answered new feeds none same (inr (paints, have)) in
     ap (λ (t : Edited). t.text) (sym back.content)
     ∙ ap (λ bytes. (after_journal tables (start (codes "ab") 1 5) bytes).editor.content.text) fed_them
 
@@ -227,7 +242,7 @@ a_row_pointed_at_comes_back law store store' answered new fed_them feeds none pa
 
 -- a row of five columns over ab
 abbrev over_ab : Beginning
-over_ab = record { text = codes "ab"; height = 1; width = 5; base = Auto; clipboard = false; offset = None; unsaved = false; journal = [] }
+over_ab = record { text = codes "ab"; height = 1; width = 5; base = Auto; settings = plain; clipboard = false; offset = None; unsaved = false; journal = [] }
 
 abbrev replay_of : List ℕ → Session
 replay_of bytes = unpainted_at tables (record over_ab { journal = bytes })
@@ -241,7 +256,11 @@ module _ {J : Type 0} (contents : J → Option (List ℕ)) (failures : J → ℕ
   abbrev Ran : Option (List ℕ) → Option (List ℕ) → Type 0
   Ran reader reader' = RunsRecorded contents failures tables (begun tables over_ab) new store store' reader reader' writer writer' journal journal'
 
-  -- where no key of the journal points
+  -- no save found the file changed
+  abbrev SameFile : (reader reader' : Option (List ℕ)) → Ran reader reader' → Type 0
+  SameFile reader reader' run = FindsNoChange tables (begun tables over_ab) store run.0 run.3 store' run.4.feeds
+
+  -- where no key of the journal rests on a row of the picture
   seen : (reader reader' : Option (List ℕ)) (run : Ran reader reader') (bytes : List ℕ) → HasAll contents journal [] → HasAll contents journal' bytes
       → none_point (keys_from [] bytes) ≡ true → PointsAsSeen tables (begun tables over_ab) store run.0 run.3 store' run.4.feeds
   unfolding unicode_segmentation unicode_width digits
@@ -250,21 +269,21 @@ module _ {J : Type 0} (contents : J → Option (List ℕ)) (failures : J → ℕ
 
   -- x, Save, y; then the session was killed
   pub a_killed_session_comes_back : (reader reader' : Option (List ℕ)) (run : Ran reader reader') → HasAll contents journal []
-      → HasAll contents journal' (0x78 ∷ 0x13 ∷ 0x79 ∷ []) → RefusesNoKey run.0 → text_of new ≡ codes "xyab"
+      → HasAll contents journal' (0x78 ∷ 0x13 ∷ 0x79 ∷ []) → RefusesNoKey run.0 → SameFile reader reader' run → text_of new ≡ codes "xyab"
   unfolding unicode_segmentation unicode_width digits
-  a_killed_session_comes_back reader reader' run had has none =
+  a_killed_session_comes_back reader reader' run had has none same =
       let bytes = 0x78 ∷ 0x13 ∷ 0x79 ∷ [] in
-      let given = law tables over_ab new store store' reader reader' writer writer' journal journal' bytes run had settled has none
+      let given = law tables over_ab new store store' reader reader' writer writer' journal journal' bytes run had settled has none same
       (seen reader reader' run bytes had has refl) in
       ap (λ (t : Edited). t.text) (sym given.0.content)
 
   -- Forward: no key edited
   pub an_unedited_text_is_the_opened_one : (reader reader' : Option (List ℕ)) (run : Ran reader reader') → HasAll contents journal []
-      → HasAll contents journal' (0x06 ∷ []) → RefusesNoKey run.0 → let e = (once_pasted tables new).editor in
+      → HasAll contents journal' (0x06 ∷ []) → RefusesNoKey run.0 → SameFile reader reader' run → let e = (once_pasted tables new).editor in
       (e.content.text ≡ codes "ab") × (e.content.past ≡ []) × (e.changed ≢ true)
   unfolding unicode_segmentation unicode_width digits
-  an_unedited_text_is_the_opened_one reader reader' run had has none =
-      let given = law tables over_ab new store store' reader reader' writer writer' journal journal' (0x06 ∷ []) run had settled has none
+  an_unedited_text_is_the_opened_one reader reader' run had has none same =
+      let given = law tables over_ab new store store' reader reader' writer writer' journal journal' (0x06 ∷ []) run had settled has none same
       (seen reader reader' run (0x06 ∷ []) had has refl) in
       let unchanged = given.1.unchanged refl in (
         ap (λ (t : Edited). t.text) (sym given.0.content) ∙ unchanged.0,
@@ -275,9 +294,9 @@ module _ {J : Type 0} (contents : J → Option (List ℕ)) (failures : J → ℕ
   -- of x, Quit, Quit and z, all read at once, z was dropped
   pub what_follows_the_end_does_not_come_back : (run : Ran (Some (0x78 ∷ 0x11 ∷ 0x11 ∷ 0x7a ∷ [])) (Some [])) → run.1 ≡ 0x7a ∷ [] → (bytes : List ℕ)
       → HasAll contents journal [] → HasAll contents journal' bytes → RefusesNoKey run.0
-      → (text_of new ≡ codes "xab") × ((replay_of bytes).editor.content.text ≡ codes "xab")
+      → SameFile (Some (0x78 ∷ 0x11 ∷ 0x11 ∷ 0x7a ∷ [])) (Some []) run → (text_of new ≡ codes "xab") × ((replay_of bytes).editor.content.text ≡ codes "xab")
   unfolding unicode_segmentation unicode_width digits
-  what_follows_the_end_does_not_come_back run dropped bytes had has none =
+  what_follows_the_end_does_not_come_back run dropped bytes had has none same =
       let all = Some (0x78 ∷ 0x11 ∷ 0x11 ∷ 0x7a ∷ []) in
       let fed : bytes_of run.0 ≡ 0x78 ∷ 0x11 ∷ 0x11 ∷ [] =
       append_cancel_right (bytes_of run.0) (0x78 ∷ 0x11 ∷ 0x11 ∷ []) (0x7a ∷ [])
@@ -285,7 +304,7 @@ module _ {J : Type 0} (contents : J → Option (List ℕ)) (failures : J → ℕ
       let is : bytes ≡ 0x78 ∷ 0x11 ∷ 0x11 ∷ [] = journal_is contents failures journal journal' [] (bytes_of run.0) bytes run.5 had has ∙ fed in
       let text : (replay_of bytes).editor.content.text ≡ codes "xab" = ap (λ xs. (replay_of xs).editor.content.text) is in
       let none_points : none_point (keys_from [] bytes) ≡ true = ap (λ xs. none_point (keys_from [] xs)) is in
-      let given = law tables over_ab new store store' all (Some []) writer writer' journal journal' bytes run had settled has none
+      let given = law tables over_ab new store store' all (Some []) writer writer' journal journal' bytes run had settled has none same
       (seen all (Some []) run bytes had has none_points) in
       (ap (λ (t : Edited). t.text) (sym given.0.content) ∙ text, text)
 

@@ -1,7 +1,10 @@
 pub mod Lasting
 pub mod Alike
+pub mod SavedAlike
+pub mod Names
 pub mod WorkKept
 pub mod AskedAlike
+pub mod PutAlike
 pub mod ReplacingAlike
 pub mod KeysAlike
 pub mod Versions

@@ -9,19 +9,22 @@ use Rattle.bx_keys.specs.Keys.{key_after, rest_after}
 use Rattle.bx_keys.specs.Waiting.{head_of}
 use Rattle.bx_store.specs.declared.store.StoreFault.{StoreFault}
 use Rattle.bx_ucd.specs.Data.{Data}
-use Rattle.bx_editor.specs.Editor.{Editor, with_top}
+use Rattle.bx_editor.specs.declared.scrolling.Scroll.{Scroll}
+use Rattle.bx_editor.specs.declared.scrolling.Scroll.TheVariants.{Least}
+use Rattle.bx_editor.specs.Editor.{Editor, rows, text_height, with_top}
 use Rattle.bx_editor.specs.Functions.{HasRows}
 use Rattle.bx_editor.specs.Keys.{after_key, asks_for_whole, needs_no_painting}
-use Rattle.bx_editor.specs.Picture.{next_top, picture}
+use Rattle.bx_editor.specs.Picture.{next_top, picture, top_behind}
+use Rattle.bx_editor.specs.Scrolling.{moved_top}
+use Rattle.bx_view.specs.Top.{follow}
 use Rattle.bx_editor.proofs.TopOnce.{top-stays}
 use Rattle.bx_session.specs.Session.{Session, after_sending, after_spending, at_opening, is_painted, key_of_byte, needs_painting, painted_after}
 use Rattle.bx_session.specs.Session.{painting, picture_of, session_after_any, session_after_key, unpainted_after_byte, unpainted_after_told, with_painting}
-use Rattle.bx_session.specs.Session.{with_clipboard, with_painting_and_clip, with_picture}
-use Rattle.bx_session.proofs.KeySizes.{key_goes_on}
+use Rattle.bx_session.specs.Session.{scroll_behind, unpainted_with_settings, with_clipboard, with_painting_and_clip, with_painting_by, with_picture}
+use Rattle.bx_session.proofs.KeySizes.{key_goes_on, key_top}
 use Rattle.bx_session.proofs.Tops.{clipboard_unseen, opening_stays}
 use Rattle.bx_session_laws.specs.Anew.{StaysPainted, AlwaysStaysPainted}
 use Rattle.bx_session_laws.proofs.TopsAlike.{not_not, unseen}
-use Rattle.bx_session_laws.proofs.TopsKept.{key_top}
 
 -- ---- what a painting leaves, and what another one finds
 
@@ -31,10 +34,18 @@ record Shown (d : Data) (s : Session) : Type 0 where
   pub painted : s.painted ≡ Some (picture_of d s.editor)
   pub known : s.known ≡ Some (picture_of d s.editor)
 
+-- the least move of the top, whether the session has ended or not
+least : (d : Data) (e : Editor) (top : ℕ) → top_behind d e top Least ≡ next_top d e top
+least d e top = by e.ended where
+  by : (ended : Bool) → (if ended then top else (if ended then top else follow (rows d e) top e.place (text_height e.height)))
+      ≡ (if ended then top else follow (rows d e) top e.place (text_height e.height))
+  by true = refl
+  by false = refl
+
 shown : (d : Data) (s : Session) → with_painting d s ≡ s → Shown d s
 shown d s same =
     let e : Editor = s.editor in
-    let stays : next_top d e e.top ≡ e.top = ap (λ (x : Session). x.editor.top) same in
+    let stays : next_top d e e.top ≡ e.top = sym (least d e e.top) ∙ ap (λ (x : Session). x.editor.top) same in
     let from_top = ap (λ top. Some (picture_of d (with_top e top))) stays in record {
       stays = stays;
       painted = sym (ap (λ (x : Session). x.painted) same) ∙ from_top;
@@ -45,7 +56,7 @@ again : (d : Data) (s : Session) → s.painting_owed ≡ false → Shown d s →
 again d s owed h =
     let e : Editor = s.editor in
     let p = picture_of d e in
-    ap (λ top. with_picture s (with_top e top) (picture_of d (with_top e top))) h.stays
+    ap (λ top. with_picture s (with_top e top) (picture_of d (with_top e top))) (least d e e.top ∙ h.stays)
     ∙ ap (λ known. record s { painted = Some p; known = Some p; painting_owed = false; pending = s.pending ++ painting known p }) h.known
     ∙ ap (λ bytes. record s { painted = Some p; known = Some p; painting_owed = false; pending = s.pending ++ bytes }) (same_changes p p refl)
     ∙ ap (λ bytes. record s { painted = Some p; known = Some p; painting_owed = false; pending = bytes }) (append-nil s.pending)
@@ -54,15 +65,23 @@ again d s owed h =
     ∙ ap (λ owed. record s { painting_owed = owed }) (sym owed)
 
 -- a painting leaves it so, with a clip behind it or without
-after_painting : (d : Data) (s : Session) (clip : Option (List ℕ)) → HasRows (with_painting d s).editor → Shown d (with_painting_and_clip d s clip)
-after_painting d s clip has = record {
-  stays = top-stays d s.editor s.editor.top (record { text = has.text; columns = has.columns });
+stays_behind : (d : Data) (e : Editor) (top : ℕ) (scroll : Scroll) → HasRows e → next_top d e (top_behind d e top scroll) ≡ top_behind d e top scroll
+stays_behind d e top scroll has = by e.ended refl where
+  by : (ended : Bool) → e.ended ≡ ended → next_top d e (if ended then top else next_top d e (moved_top d e top scroll)) ≡ (if ended then top else next_top d e (moved_top d e top scroll))
+  by true is = ap (λ (over : Bool). if over then top else follow (rows d e) top e.place (text_height e.height)) is
+  by false is = top-stays d e (moved_top d e top scroll) has
+
+after_painting : (d : Data) (scroll : Scroll) (s : Session) (clip : Option (List ℕ)) → HasRows (with_painting_by d scroll s).editor
+    → Shown d (with_painting_and_clip d scroll s clip)
+after_painting d scroll s clip has = record {
+  stays = stays_behind d s.editor s.editor.top scroll (record { text = has.text; columns = has.columns });
   painted = refl;
   known = refl;
 }
 
 twice : (d : Data) (s : Session) → HasRows (with_painting d s).editor → with_painting d (with_painting d s) ≡ with_painting d s
-twice d s has = let h = after_painting d s None has in again d (with_painting d s) refl (record { stays = h.stays; painted = refl; known = refl })
+twice d s has =
+    let h = after_painting d Least s None has in again d (with_painting d s) refl (record { stays = h.stays; painted = refl; known = refl })
 
 -- ---- changes that leave the picture as it is
 
@@ -135,12 +154,13 @@ neither false c h = (refl, h)
 byte_stays : (paints : Bool) (d : Data) (fault : Option StoreFault) (s : Session) (b : ℕ) → is_painted s b ≡ paints
     → let key = key_of_byte s b in
     let u = unpainted_after_byte d fault s b in
-    let new = if paints then painted_after d u key else u in
+    let new = if paints then painted_after d (scroll_behind s.editor key) u key else u in
     HasRows new.editor → StaysPainted d s → StaysPainted d new
 byte_stays true d fault s b is has h owed =
     let u = unpainted_after_byte d fault s b in
-    let new = painted_after d u (key_of_byte s b) in
-    let left = after_painting d u None (record { text = has.text; columns = has.columns }) in
+    let scroll = scroll_behind s.editor (key_of_byte s b) in
+    let new = painted_after d scroll u (key_of_byte s b) in
+    let left = after_painting d scroll u None (record { text = has.text; columns = has.columns }) in
     again d new owed (record { stays = left.stays; painted = refl; known = refl })
 byte_stays false d fault s b is has h owed =
     let both = neither s.painting_owed (needs_painting s.editor (key_of_byte s b)) is in
@@ -158,6 +178,10 @@ always_stays = record {
   owing_told = λ d s height width owed. absurd (cc owed);
   replay = λ d s b owed. absurd (cc owed);
   replay_end = λ d s owed. absurd (cc owed);
+  unmoved_replay = λ d s b owed. absurd (cc owed);
+  unscrolled_end = λ d s owed. absurd (cc owed);
+  settings = λ d s settings has owed. twice d (unpainted_with_settings s settings) has;
+  owing_settings = λ d s settings owed. absurd (cc owed);
   clipboard = clipboard_stays;
   going = λ d s offset owed. absurd (cc owed);
   sending = sending_stays;

@@ -1,6 +1,6 @@
 -- A key in replacing does the same to two editors of which the same lasts.
-use Rattle.std.proofs.Common.{ℕ, true, false, List, [], ◌∷◌, ◌+◌, length, Option, Some, None, refl, sym, ap, ap₂, subst, if◌then◌else◌}
-use Rattle.std.specs.Prelude.{◌==◌, ◌&&◌, not}
+use Rattle.std.proofs.Common.{◌≡◌, ℕ, Bool, true, false, List, [], ◌∷◌, ◌+◌, length, Option, Some, None, refl, sym, ap, ap₂, subst, if◌then◌else◌}
+use Rattle.std.specs.Prelude.{◌==◌, ◌&&◌, ◌⊎◌, not}
 use Rattle.bx_keys.specs.declared.key.Key.{Key}
 use Rattle.bx_store.specs.declared.store.StoreFault.{StoreFault}
 use Rattle.bx_text.specs.Edits.{fits, splice}
@@ -9,22 +9,27 @@ use Rattle.bx_document.specs.Swapped.{behind_character, last_stop, swapped}
 use Rattle.bx_editor.specs.declared.undo_groups.typing.Typing.{Typing}
 use Rattle.bx_view.specs.Moves.{place_at}
 use Rattle.bx_view.specs.TextRows.{text_rows}
+use Rattle.bx_editor.specs.declared.answer.Answer.{Answer}
+use Rattle.bx_editor.specs.declared.answer.Answer.TheVariants.{Letter, Erases, Moves, PutsIn, Passes, GoesBack, Next, Previous, Replaces, Scrolls, Stays, Ends}
+use Rattle.bx_editor.specs.declared.input_line.Erasure.{Erasure}
 use Rattle.bx_editor.specs.declared.search_state.SearchPurpose.TheVariants.{Replace}
 use Rattle.bx_editor.specs.declared.matches.Landing.{Landing}
 use Rattle.bx_editor.specs.declared.message.Message.TheVariants.{TextFull}
 use Rattle.bx_editor.specs.declared.search_state.SearchState.TheVariants.{Off, Replacing}
+use Rattle.bx_editor.specs.Before.{Before}
 use Rattle.bx_editor.specs.Editor.{Editor, place_after, with_exchange}
-use Rattle.bx_editor.specs.Effects.{Before}
-use Rattle.bx_editor.specs.Keys.{Answer, Letter, Shortens, GoesBack, Next, Previous, Replaces, Stays, Ends, answered_match, answered_replacement}
+use Rattle.bx_editor.specs.InputLines.{erases_nothing, is_no_letter, line_lengthened, line_shortened}
+use Rattle.bx_editor.specs.Keys.{after_pressing, answered_match, answered_replacement}
+use Rattle.bx_editor.specs.LinePuts.{after_line_put}
 use Rattle.bx_editor.specs.Putting.{is_paste, only_paste}
-use Rattle.bx_editor.specs.Replacing.{after_asking_replacement, after_ending, after_match_letter, after_replacement_letter, after_passing_over, after_replacing, after_replacing_all}
-use Rattle.bx_editor.specs.Replacing.{after_showing, asked_at, at_match, match_stop, matches_on, next_match, on_from, replacement_typed}
-use Rattle.bx_editor.specs.Search.{longest_query}
-use Rattle.bx_editor.specs.Replacing.{shown_at, with_matches_replaced, with_replacement}
-use Rattle.bx_editor.specs.Search.{is_no_letter, kept, landed, landing_from, lengthened, sought, without_search}
+use Rattle.bx_editor.specs.Replacing.{after_asking_replacement, after_ending, after_erasing_replacement, after_match_letter, after_passing_over, after_replacement_letter}
+use Rattle.bx_editor.specs.Replacing.{after_replacing, after_replacing_all, after_showing, asked_at, at_match, match_stop, matches_on, next_match, on_from}
+use Rattle.bx_editor.specs.Replacing.{replacement_line, replacement_typed, shown_at, with_matches_replaced, with_replacement}
+use Rattle.bx_editor.specs.Search.{kept, landed, landing_from, longest_query, nothing_sought, sought, without_search}
 use Rattle.bx_editor.proofs.TwoEdits.{runs-of-two, stored-of-two}
-use Rattle.bx_session_laws.proofs.Lasting.{Lasting, Serves, lasting, having}
-use Rattle.bx_session_laws.proofs.Alike.{Alike, Edits, either_alike, idle, going_on, pressed_alike, work}
+use Rattle.bx_session_laws.proofs.Lasting.{Lasting, Presses, lasting, having, scrolls}
+use Rattle.bx_session_laws.proofs.Alike.{Alike, Edits, either_alike, going_on, idle, pressed_alike, work}
+use Rattle.bx_session_laws.proofs.AskedAlike.{scrolled_alike, taking_alike}
 
 -- ---- matches give way
 
@@ -135,8 +140,9 @@ asking_alike d e f =
     let aimed : Editor = record e { purpose = Replace } in
     let aimed' : Editor = record g { purpose = Replace } in
     let landing = landing_from d e.place aimed in
-    either_alike (length (sought d aimed) == 0) e aimed (asked_at landing.place (landed aimed landing)) g aimed'
-    (asked_at landing.place (landed aimed' landing)) (idle e aimed g aimed' refl refl refl) (asked_alike e f landing landing.place)
+    let none : Editor → Editor = λ x. landed (record x { purpose = Replace }) (nothing_sought e.query) in
+    either_alike (length (sought d aimed) == 0) e (none e) (asked_at landing.place (landed aimed landing)) g (none g)
+    (asked_at landing.place (landed aimed' landing)) (idle e (none e) g (none g) refl refl refl) (asked_alike e f landing landing.place)
 
 -- ---- keys
 
@@ -144,15 +150,26 @@ asking_alike d e f =
 unsought_alike : (e new f new' : Editor) → Alike (without_search e) new (without_search f) new' → Alike e new f new'
 unsought_alike e new f new' h = record { lasts = h.lasts; deeds = h.deeds; first = h.first; other = h.other }
 
-replacement_letter_alike : (d : Data) (typing : Typing) (e f : Editor) (c : ℕ)
-    → Alike e (after_replacement_letter d typing e c) (having (lasting e) f) (after_replacement_letter d typing (having (lasting e) f) c)
-replacement_letter_alike d typing e f c =
+pub replacement_typed_alike : (d : Data) (e f : Editor) (c : ℕ)
+    → Alike e (replacement_typed d e c) (having (lasting e) f) (replacement_typed d (having (lasting e) f) c)
+replacement_typed_alike d e f c =
     let g = having (lasting e) f in
-    let longer : Editor → Editor = λ x. with_replacement x (lengthened longest_query (kept x.search_state x.replacement) c) in
-    either_alike (c == 0xA) e (if is_paste typing then e else after_showing d e) (replacement_typed d e c) g
-    (if is_paste typing then g else after_showing d g) (replacement_typed d g c)
-    (either_alike (is_paste typing) e e (after_showing d e) g g (after_showing d g) (same e f) (shown_alike e f (next_match d e e.place)))
-    (either_alike (is_no_letter d c) e e (longer e) g g (longer g) (same e f) (idle e (longer e) g (longer g) refl refl refl))
+    let longer : Editor → Editor = λ x. with_replacement x (line_lengthened d longest_query (kept e.search_state (replacement_line e)) c) in
+    either_alike (is_no_letter d c) e e (longer e) g g (longer g) (same e f) (idle e (longer e) g (longer g) refl refl refl)
+
+replacement_letter_alike : (d : Data) (e f : Editor) (c : ℕ)
+    → Alike e (after_replacement_letter d e c) (having (lasting e) f) (after_replacement_letter d (having (lasting e) f) c)
+replacement_letter_alike d e f c =
+    let g = having (lasting e) f in
+    either_alike (c == 0xA) e (after_showing d e) (replacement_typed d e c) g (after_showing d g) (replacement_typed d g c)
+    (shown_alike e f (next_match d e e.place)) (replacement_typed_alike d e f c)
+
+erasing_replacement_alike : (d : Data) (e f : Editor) (how : Erasure)
+    → Alike e (after_erasing_replacement d e how) (having (lasting e) f) (after_erasing_replacement d (having (lasting e) f) how)
+erasing_replacement_alike d e f how =
+    let g = having (lasting e) f in
+    let shorter : Editor → Editor = λ x. with_replacement x (line_shortened d how (replacement_line e)) in
+    either_alike (erases_nothing d how (replacement_line e)) e e (shorter e) g g (shorter g) (same e f) (idle e (shorter e) g (shorter g) refl refl refl)
 
 match_letter_alike : (d : Data) (typing : Typing) (e f : Editor) (c : ℕ)
     → Alike e (after_match_letter d typing e c) (having (lasting e) f) (after_match_letter d typing (having (lasting e) f) c)
@@ -160,32 +177,49 @@ match_letter_alike d typing e f c =
     let g = having (lasting e) f in
     either_alike ((c == 0xA) && not (is_paste typing)) e (after_replacing d e) e g (after_replacing d g) g (replacing_alike d e f) (same e f)
 
-pub replacement_alike : (d : Data) (fault : Option StoreFault) (was was' : Before) (e f : Editor) (key : Key) (answer : Answer) → Serves e f key
+-- a key that ends the search
+pub ends_search_alike : (d : Data) (fault : Option StoreFault) (was was' : Before) (e f : Editor) (key : Key) → Presses e f key
+    → let g = having (lasting e) f in
+    Alike e (after_pressing d fault was (without_search e) key) g (after_pressing d None (record was' { typing = was.typing }) (without_search g) key)
+ends_search_alike d fault was was' e f key h =
+    unsought_alike e _ (having (lasting e) f) _
+    (pressed_alike d fault was was' (without_search e) f key
+    (record { goes_on = h.goes_on; saves_nothing = h.saves_nothing; rests = h.rests; names = h.names }))
+
+pub replacement_alike : (d : Data) (fault : Option StoreFault) (was was' : Before) (e f : Editor) (key : Key) (answer : Answer) → Presses e f key
+    → (scrolls answer ≡ false) ⊎ (f.top ≡ e.top) → Alike e (after_line_put d e) (having (lasting e) f) (after_line_put d (having (lasting e) f))
     → Alike e (answered_replacement d fault was e key answer) (having (lasting e) f)
     (answered_replacement d None (record was' { typing = was.typing }) (having (lasting e) f) key answer)
-replacement_alike d fault was was' e f key (Letter c) other =
+replacement_alike d fault was was' e f key (Letter c) h r put =
     let g = having (lasting e) f in
-    going_on (only_paste was.typing) e (after_replacement_letter d was.typing e c) g (after_replacement_letter d was.typing g c) (replacement_letter_alike d was.typing e f c)
-replacement_alike d fault was was' e f key Shortens other = record { lasts = refl; deeds = []; first = refl; other = refl }
-replacement_alike d fault was was' e f key GoesBack other = record { lasts = refl; deeds = []; first = refl; other = refl }
-replacement_alike d fault was was' e f key Next other = record { lasts = refl; deeds = []; first = refl; other = refl }
-replacement_alike d fault was was' e f key Previous other = record { lasts = refl; deeds = []; first = refl; other = refl }
-replacement_alike d fault was was' e f key Replaces other = shown_alike e f (next_match d e e.place)
-replacement_alike d fault was was' e f key Stays other = record { lasts = refl; deeds = []; first = refl; other = refl }
-replacement_alike d fault was was' e f key Ends other =
-    unsought_alike e _ (having (lasting e) f) _ (pressed_alike d fault was was' (without_search e) f key other)
+    taking_alike d was.typing c e (after_replacement_letter d e c) g (after_replacement_letter d g c) refl (λ taken. replacement_letter_alike d e f c)
+replacement_alike d fault was was' e f key (Erases how) h r put = erasing_replacement_alike d e f how
+replacement_alike d fault was was' e f key (Moves m) h r put = record { lasts = refl; deeds = []; first = refl; other = refl }
+replacement_alike d fault was was' e f key PutsIn h r put = put
+replacement_alike d fault was was' e f key Passes h r put = same e f
+replacement_alike d fault was was' e f key GoesBack h r put = record { lasts = refl; deeds = []; first = refl; other = refl }
+replacement_alike d fault was was' e f key Next h r put = record { lasts = refl; deeds = []; first = refl; other = refl }
+replacement_alike d fault was was' e f key Previous h r put = record { lasts = refl; deeds = []; first = refl; other = refl }
+replacement_alike d fault was was' e f key Replaces h r put = shown_alike e f (next_match d e e.place)
+replacement_alike d fault was was' e f key (Scrolls way) h r put = scrolled_alike d was (record was' { typing = was.typing }) e f way r
+replacement_alike d fault was was' e f key Stays h r put = record { lasts = refl; deeds = []; first = refl; other = refl }
+replacement_alike d fault was was' e f key Ends h r put = ends_search_alike d fault was was' e f key h
 
-pub match_alike : (d : Data) (fault : Option StoreFault) (was was' : Before) (e f : Editor) (key : Key) (answer : Answer) → Serves e f key
+pub match_alike : (d : Data) (fault : Option StoreFault) (was was' : Before) (e f : Editor) (key : Key) (answer : Answer) → Presses e f key
+    → (scrolls answer ≡ false) ⊎ (f.top ≡ e.top)
     → Alike e (answered_match d fault was e key answer) (having (lasting e) f)
     (answered_match d None (record was' { typing = was.typing }) (having (lasting e) f) key answer)
-match_alike d fault was was' e f key (Letter c) other =
+match_alike d fault was was' e f key (Letter c) h r =
     let g = having (lasting e) f in
     going_on (only_paste was.typing) e (after_match_letter d was.typing e c) g (after_match_letter d was.typing g c) (match_letter_alike d was.typing e f c)
-match_alike d fault was was' e f key Shortens other = same e f
-match_alike d fault was was' e f key GoesBack other = ended_alike e e (having (lasting e) f) (having (lasting e) f) (same e f)
-match_alike d fault was was' e f key Next other = passing_alike d e f
-match_alike d fault was was' e f key Previous other = record { lasts = refl; deeds = []; first = refl; other = refl }
-match_alike d fault was was' e f key Replaces other = all_alike d e f
-match_alike d fault was was' e f key Stays other = record { lasts = refl; deeds = []; first = refl; other = refl }
-match_alike d fault was was' e f key Ends other =
-    unsought_alike e _ (having (lasting e) f) _ (pressed_alike d fault was was' (without_search e) f key other)
+match_alike d fault was was' e f key (Erases how) h r = same e f
+match_alike d fault was was' e f key (Moves m) h r = ends_search_alike d fault was was' e f key h
+match_alike d fault was was' e f key PutsIn h r = ends_search_alike d fault was was' e f key h
+match_alike d fault was was' e f key Passes h r = ends_search_alike d fault was was' e f key h
+match_alike d fault was was' e f key GoesBack h r = ended_alike e e (having (lasting e) f) (having (lasting e) f) (same e f)
+match_alike d fault was was' e f key Next h r = passing_alike d e f
+match_alike d fault was was' e f key Previous h r = record { lasts = refl; deeds = []; first = refl; other = refl }
+match_alike d fault was was' e f key Replaces h r = all_alike d e f
+match_alike d fault was was' e f key (Scrolls way) h r = scrolled_alike d was (record was' { typing = was.typing }) e f way r
+match_alike d fault was was' e f key Stays h r = record { lasts = refl; deeds = []; first = refl; other = refl }
+match_alike d fault was was' e f key Ends h r = ends_search_alike d fault was was' e f key h

@@ -16,7 +16,8 @@ use Rattle.bx_editor.specs.declared.cursor.Soft.{Soft}
 use Rattle.bx_editor.specs.declared.cursor.Soft.TheVariants as softness
 use Rattle.bx_editor.specs.Editor.{Editor}
 use Rattle.bx_editor.proofs.Computed.{tables}
-use Rattle.bx_session.specs.Session.{Session}
+use Rattle.bx_editor.specs.Settings.{SettingsState, plain}
+use Rattle.bx_session.specs.Session.{Session, with_settings}
 use Rattle.bx_session.specs.Replaying.{after_journal}
 use Rattle.bx_session.proofs.Computed.{after, start, csi}
 
@@ -160,3 +161,33 @@ a_redo_changes_it = refl
 pub and_an_undo_leads_back : counted (more (over (codes "ab") (codes "x" ++ undo_run)) (redo_run ++ undo_run)) ≡ (codes "ab", false, Some 0)
 unfolding unicode_segmentation unicode_width digits
 and_an_undo_leads_back = refl
+
+-- ---- names, and the question whether to overwrite
+
+-- a text without a name, opened to work by these settings
+abbrev nameless : List ℕ → Editor
+nameless bytes = (after_journal tables (with_settings tables (start [] 2 40) (record plain { name = Some [] })) bytes).editor
+
+-- x, Save, n, Enter, y, Save and z: the first Save asks for the name, and the second one stores nothing either
+pub an_answer_is_the_name : let e = nameless (codes "x" ++ 0x13 ∷ codes "n" ++ 0xA ∷ codes "y" ++ 0x13 ∷ codes "z") in
+    (e.content.text, e.name, e.home, e.prompt) ≡ (codes "xyz", Some (codes "n"), false, prompts.Off)
+unfolding unicode_segmentation unicode_width digits
+an_answer_is_the_name = refl
+
+-- x, Save, the key that a journal has where a save asked, n and z: the answer goes not into the text
+pub an_answer_to_overwrite_is_none_of_the_text : (over (codes "ab") (codes "x" ++ 0x13 ∷ csi (codes "106~") ++ codes "nz")).editor.content.text ≡ codes "xzab"
+unfolding unicode_segmentation unicode_width digits
+an_answer_to_overwrite_is_none_of_the_text = refl
+
+-- ---- the wheel, over eight rows in a window of three text rows
+
+abbrev rolled : List ℕ → ℕ × ℕ
+rolled bytes = let e = (after_journal tables (start (codes "1\n2\n3\n4\n5\n6\n7\n8") 4 10) bytes).editor in (e.top, e.place)
+
+pub the_wheel_takes_the_cursor_along : rolled (csi (codes "105~")) ≡ (6, 6)
+unfolding unicode_segmentation unicode_width digits
+the_wheel_takes_the_cursor_along = refl
+
+pub a_click_goes_by_the_rows_shown : rolled (csi (codes "105~") ++ csi (codes "7;2;1t")) ≡ (6, 8)
+unfolding unicode_segmentation unicode_width digits
+a_click_goes_by_the_rows_shown = refl

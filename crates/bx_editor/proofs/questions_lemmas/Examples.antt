@@ -2,7 +2,7 @@
 use Rattle.std.proofs.Common.{◌≡◌, ℕ, true, false, Bool, List, [], ◌∷◌, ◌++◌, map, replicate, Option, Some, None, refl, length}
 use Rattle.std.specs.Prelude.{codes}
 use Rattle.bx_editor.specs.declared.questions.line.Target.{Target}
-use Rattle.bx_editor.specs.questions.Answers.{lengthened, shortened, asked, digit_of, is_line_letter}
+use Rattle.bx_editor.specs.questions.Answers.{shortened, asked, digit_of, is_line_letter}
 use Rattle.bx_editor.specs.questions.Names.{named, closing, asks_code, coded, is_code_letter}
 use Rattle.std.specs.Str.{chars}
 use Rattle.std.specs.Char.{encode_utf8}
@@ -72,15 +72,7 @@ characters_by_code = refl
 no_such_character : map coded ([] ∷ codes "D800" ∷ codes "dfff" ∷ codes "110000" ∷ codes "+5d" ∷ []) ≡ replicate 5 None
 no_such_character = refl
 
--- ---- an answer while it is typed
-
-up_to_the_limit : lengthened 3 (codes "12") 0x661 ≡ codes "12" ++ 0xD9 ∷ 0xA1 ∷ []
-unfolding chars encode_utf8
-up_to_the_limit = refl
-
-at_the_limit : lengthened 3 (codes "12" ++ 0xD9 ∷ 0xA1 ∷ []) 0x34 ≡ codes "12" ++ 0xD9 ∷ 0xA1 ∷ []
-unfolding chars encode_utf8
-at_the_limit = refl
+-- ---- a text without its last character
 
 one_less : map shortened ((codes "12" ++ 0xD9 ∷ 0xA1 ∷ []) ∷ codes "1" ∷ [] ∷ []) ≡ codes "12" ∷ [] ∷ [] ∷ []
 unfolding chars encode_utf8

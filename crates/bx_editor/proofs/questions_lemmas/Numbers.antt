@@ -22,7 +22,7 @@ more-values i (suc k) = let e : suc k + i ≡ suc (k + i) = omega arith in rw e 
 pub few-values : (i : ℕ) → i ≤ 16 → values i ≤ 10000000000000000
 few-values i few = let e : 16 - i + i ≡ 16 = omega arith in subst (λ m. values i ≤ values m) e (more-values i (16 - i))
 
-digit-small : (c : ℕ) → IfSome (digit_of c) (λ d. d < 10)
+pub digit-small : (c : ℕ) → IfSome (digit_of c) (λ d. d < 10)
 digit-small c = grind (arith, nat_tests)
 
 one-more : (number : Option ℕ) (i : ℕ) (d : Option ℕ) → IfSome d (λ x. x < 10) → unwrap_or number 0 < values i

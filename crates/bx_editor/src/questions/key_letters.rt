@@ -1,5 +1,5 @@
 //! The letter of a key under another layout: layouts il, ara and ir of xkeyboard-config.
-ghost use Rattle.std.specs.Prelude.{◌≡◌};
+ghost use Rattle.std.specs.Prelude.{◌≡◌, ◌<◌, ◌+◌};
 ghost use Rattle.bx_editor.specs.questions.KeyLetters.{answers_name, code_letter, key_letter, name_letter};
 
 use crate::questions::codes::is_code_letter;
@@ -55,7 +55,10 @@ pub fn name_letter(c: char) -> char
 }
 
 /// The digit of ASCII that has a number from 0 to 9.
-fn ascii_digit(digit: usize) -> char {
+fn ascii_digit(digit: usize) -> char
+    requires { digit < 10 }
+    ensures { result ≡ 0x30 + digit }
+{
     char::from(b'0' + digit as u8)
 }
 

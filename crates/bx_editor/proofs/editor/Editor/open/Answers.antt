@@ -9,4 +9,4 @@ invariant_of-result g c =
     let query = few-at-start _ c.new-in-Ok-open-2.ensures.bytes in
     let other = few-at-start _ c.new-in-Ok-open-3.ensures.bytes in
     let answer = empty-answer _ _ c.new-in-Ok-open-4.ensures.bytes in
-    (begin-is-place d _, search rules, tt, query, other, answer, tt, tt)
+    (begin-is-place d _, search rules, tt, tt, query, other, answer, tt, tt, tt, tt)

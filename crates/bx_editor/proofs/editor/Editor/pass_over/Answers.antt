@@ -25,7 +25,7 @@ invariant_of-self-2 g c =
     let behind = c.behind_character-behind.result in
     let kept = c.self.invariant in
     let search_state : i.cursor.search_state ≡ Replacing = ap (λ (s : EditorState g.row.D.Denot). s.editor.search_state) c.self.view_is ∙ c.requires.shown in
-    let shown = at-match d i.purpose query text i.cursor.search_state i.at i.count search_state kept.7 in
+    let shown = at-match d i.purpose query text i.cursor.search_state i.at i.count search_state kept.10 in
     let found : Some at ≡ first_from d (reading i.purpose) (query-letters d i.purpose query text) text behind =
     sym c.in-Some.is ∙ c.next_match.ensures.next
     ∙ sym (ap (λ (s : EditorState g.row.D.Denot). next_match (g.D.BidiData.data s.tables) s.editor behind) c.self.view_is) in
@@ -41,5 +41,8 @@ invariant_of-self-2 g c =
       kept.4,
       kept.5,
       kept.6,
+      kept.7,
+      kept.8,
+      kept.9,
       subst (λ s. StandsAt d i.purpose query text s at i.count) (sym search_state) next,
     )

@@ -1,7 +1,7 @@
 use Rattle.std.proofs.Common.{◌∙◌, ap}
+use Rattle.bx_editor.specs.Before.{before}
 use Rattle.bx_editor.specs.Editor.{cleared}
 use Rattle.bx_editor.specs.Functions.{EditorState}
-use Rattle.bx_editor.specs.Effects.{before}
 use Rattle.bx_editor.specs.Keys.{after_pressing}
 use Rattle.bx_editor.proofs.editor.Editor.press_without_question.Goals as goal
 

@@ -14,7 +14,7 @@ exchange-requires-clause-few g c =
     let query = string_bytes i.query in
     let all = spans_from d (reading i.purpose) (query-letters d i.purpose query text) text i.at in
     let shown = at-match d i.purpose query text i.cursor.search_state i.at i.count
-    (ap (λ (s : EditorState g.row.D.Denot). s.editor.search_state) c.self.view_is ∙ c.requires.shown) c.self.invariant.7 in
+    (ap (λ (s : EditorState g.row.D.Denot). s.editor.search_state) c.self.view_is ∙ c.requires.shown) c.self.invariant.10 in
     let same = ap₂ (λ r q. spans_from d r q text i.at) c.reading_of-reading.ensures
     (c.shown_query-query.ensures.query
     ∙ sym (ap (λ (s : EditorState g.row.D.Denot). sought (g.D.BidiData.data s.tables) s.editor) c.self.view_is)) in

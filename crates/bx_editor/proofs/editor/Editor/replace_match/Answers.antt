@@ -1,4 +1,4 @@
-use Rattle.std.proofs.Common.{◌≡◌, ◌+◌, ◌≤◌, ◌∙◌, ℕ, Bool, true, List, ap, ap₂, subst, sym, IsUtf8}
+use Rattle.std.proofs.Common.{◌≡◌, ◌+◌, ◌≤◌, ◌∙◌, ℕ, Bool, true, List, ap, ap₂, string_bytes, subst, sym, IsUtf8}
 use Rattle.std.specs.Prelude.{Some, None, if◌then◌else◌}
 use Rattle.bx_common.specs.Characters.{largest_text}
 use Rattle.bx_text.specs.Edits.{fits, splice}
@@ -12,6 +12,7 @@ use Rattle.bx_editor.specs.Replacing.{after_ending, with_matches_replaced}
 use Rattle.bx_editor.specs.declared.search_state.SearchState.TheVariants.{Replacing}
 use Rattle.bx_editor.proofs.Begin.{begin-is-place}
 use Rattle.bx_editor.proofs.Exchanged.{held-in}
+use Rattle.bx_editor.proofs.InLine.{line-of-match}
 use Rattle.bx_editor.proofs.NextShown.{found-behind, replaced-last, replaced-next}
 use Rattle.bx_editor.proofs.ShownMatch.{replaced-one, room-for-one, shown-in}
 use Rattle.bx_editor.proofs.editor.Editor.replace_match.Goals as goal
@@ -34,7 +35,7 @@ exchange-requires-clause-few g c =
     let e = now.editor in
     let d = g.D.BidiData.data now.tables in
     let utf8 = c.match_stop-stop.ensures.utf8 in
-    let match = shown-in g.D.BidiData.data _ now c.self.view_is c.requires.shown c.self.invariant.7 in
+    let match = shown-in g.D.BidiData.data _ now c.self.view_is c.requires.shown c.self.invariant.10 in
     let bounds = c.match_stop-stop.ensures.range.stop_bounds in
     let room : e.count + 1 ≤ largest_text =
     room-for-one d e.purpose e.query e.content.text e.at e.count utf8 match c.match_stop-stop.result c.match_stop-stop.ensures.stop
@@ -77,7 +78,7 @@ invariant_of-self g c =
     let place = c.in-Some.place in
     let kept = c.self-2.invariant in
     let utf8 = c.match_stop-stop.ensures.utf8 in
-    let match = shown-in g.D.BidiData.data _ now c.self.view_is c.requires.shown c.self.invariant.7 in
+    let match = shown-in g.D.BidiData.data _ now c.self.view_is c.requires.shown c.self.invariant.10 in
     let other = c.in_ok-replacement.ensures.cases ∙ ap (λ (s : EditorState g.row.D.Denot). s.editor.replacement) c.self.view_is in
     let put = c.as_str-2.ensures.value ∙ other in
     let text = splice e.content.text e.at stop e.replacement in
@@ -101,7 +102,10 @@ invariant_of-self g c =
     (held-in d e stop e.replacement 1
     (λ purpose query new count origin. IsTextPlace d new place × IsAtMatch d purpose query new at count × IsTextPlace d new origin)
     range.start_bounds.0 (there, here, begin-is-place d text)) in
-    (all.0, kept.1, kept.2, kept.3, kept.4, kept.5, all.2, all.1)
+    let after = c.self-2.inside in
+    let line = line-of-match (g.D.BidiData.data after.document.tables) (string_bytes after.query) (string_bytes after.replacement)
+    (string_bytes after.answer) after.input_cursor after.prompt after.cursor.search_state kept.7 in
+    (all.0, kept.1, kept.2, kept.3, kept.4, kept.5, kept.6, line, kept.8, all.2, all.1)
 
 pub returns-clause-ok : goal.returns-clause-ok
 returns-clause-ok g c =

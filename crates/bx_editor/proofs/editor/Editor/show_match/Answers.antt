@@ -8,6 +8,7 @@ use Rattle.bx_editor.specs.Origin.{asks_replacement}
 use Rattle.bx_editor.specs.Replacing.{next_match, shown_at}
 use Rattle.bx_editor.specs.Search.{reading, sought}
 use Rattle.bx_editor.specs.declared.search_state.SearchState.TheVariants.{Replacing}
+use Rattle.bx_editor.proofs.InLine.{line-of-match}
 use Rattle.bx_editor.proofs.ShownMatch.{asked, asked-began, query-letters, shown}
 use Rattle.bx_editor.proofs.editor.Editor.show_match.Goals as goal
 
@@ -40,9 +41,12 @@ invariant_of-self g c =
       kept.3,
       kept.4,
       kept.5,
-      asked-began d text i.cursor.search_state i.origin prompts kept.6,
+      kept.6,
+      line-of-match d query (string_bytes i.replacement) (string_bytes i.answer) i.input_cursor i.prompt i.cursor.search_state kept.7,
+      kept.8,
+      asked-began d text i.cursor.search_state i.origin prompts kept.9,
       shown d i.purpose query text at i.count i.cursor.place c.first_from.ensures.utf8 c.first_from.ensures.short
-          (asked d i.purpose query text i.cursor.search_state i.at i.count prompts kept.7) found,
+          (asked d i.purpose query text i.cursor.search_state i.at i.count prompts kept.10) found,
     )
 
 pub returns-in-Some-first_from : goal.returns-in-Some-first_from

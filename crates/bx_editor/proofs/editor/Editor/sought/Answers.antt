@@ -25,7 +25,7 @@ returns-clause-some g c = λ shown.
     let now : EditorState g.row.D.Denot = c.args.self.now in
     let e = now.editor in
     let d = g.D.BidiData.data now.tables in
-    let match = shown-in g.D.BidiData.data _ now c.self.view_is shown c.self.invariant.7 in
+    let match = shown-in g.D.BidiData.data _ now c.self.view_is shown c.self.invariant.10 in
     some-if c.query.result (λ none. some-letters d (reading e.purpose) (sought d e) e.content.text e.at match.here ((returns-clause-none g c).0 none))
 
 pub returns-clause-utf8 : goal.returns-clause-utf8

@@ -1,11 +1,35 @@
-use Rattle.std.proofs.Common.{◌≡◌, ◌∙◌, ◌||◌, ap, subst, sym, false}
+use Rattle.std.proofs.Common.{◌≡◌, ◌≤◌, ◌∙◌, ◌||◌, ap, chars, false, length, string_bytes, subst, sym, true}
 use Rattle.std.proofs.lemmas.Bool.{ne_eqb}
 use Rattle.bx_text.specs.index.Paragraphs.{is_separator}
+use Rattle.bx_view.specs.Places.{IsTextPlace}
+use Rattle.bx_editor.specs.declared.questions.answers.Prompt.TheVariants as prompts
 use Rattle.bx_editor.specs.Editor.{Editor, cleared}
 use Rattle.bx_editor.specs.Functions.{EditorState}
-use Rattle.bx_editor.specs.Search.{is_no_letter, kept, lengthened, longest_query, search_from, with_query}
+use Rattle.bx_editor.specs.LineState.{LineState}
+use Rattle.bx_editor.specs.Origin.{is_queried}
+use Rattle.bx_editor.specs.InputLines.{is_at_end, is_no_letter, line_lengthened, line_with}
+use Rattle.bx_editor.specs.Search.{kept, longest_query, query_line, search_on, with_query}
+use Rattle.bx_editor.proofs.InLine.{kept-place, place-in-query}
 use Rattle.bx_editor.proofs.Sought.{letter-sought}
 use Rattle.bx_editor.proofs.editor.Editor.type_letter.Goals as goal
+
+pub insert-requires-clause-few : goal.insert-requires-clause-few
+insert-requires-clause-few g c = subst (λ ls. length (chars ls) ≤ 64) (sym (ap (λ (l : LineState). l.text) c.in_ok-line.ensures)) c.kept.ensures.few
+
+pub insert-requires-clause-place : goal.insert-requires-clause-place
+insert-requires-clause-place g c =
+    let i = c.self.inside in
+    let d = g.D.BidiData.data i.document.tables in
+    let query = string_bytes i.query in
+    let other = string_bytes i.replacement in
+    let prompt : i.prompt ≡ prompts.Off = ap (λ (s : EditorState g.row.D.Denot). s.editor.prompt) c.self.view_is ∙ c.requires.prompt in
+    let on : is_queried i.cursor.search_state ≡ true =
+    ap (λ (s : EditorState g.row.D.Denot). is_queried s.editor.search_state) c.self.view_is ∙ c.requires.queried in
+    let is : c.in_ok-line.line ≡ kept i.cursor.search_state (line_with query i.input_cursor) =
+    c.in_ok-line.ensures ∙ c.kept.ensures.kept ∙ ap (λ q. kept i.cursor.search_state (line_with q i.input_cursor)) c.as_str.ensures.value in
+    subst (λ (l : LineState). IsTextPlace d l.text l.cursor) (sym is)
+    (kept-place d i.cursor.search_state query i.input_cursor
+    (place-in-query d query other (string_bytes i.answer) i.input_cursor i.prompt i.cursor.search_state prompt on c.self.invariant.7))
 
 pub returns-clause-ok : goal.returns-clause-ok
 returns-clause-ok g c =
@@ -13,24 +37,5 @@ returns-clause-ok g c =
     let d = g.D.BidiData.data now.tables in
     let e : Editor = cleared now.editor in
     let letter = c.args.c in
-    let apart = sym c.separates.ensures ∙ c.if-separates.false in
-    let plain : is_no_letter d letter ≡ false =
-    ap (λ b. b || is_separator (d.class letter)) (ne_eqb letter 9 c.if-c-eq9.false)
-    ∙ ap (λ (s : EditorState g.row.D.Denot). is_separator ((g.D.BidiData.data s.tables).class letter)) (sym c.self.view_is)
-    ∙ apart in
-    subst (λ (s : EditorState g.row.D.Denot). c.land.new.self ≡ record {
-      tables = s.tables;
-      editor = search_from (g.D.BidiData.data s.tables) s.editor.place
-          (with_query (cleared s.editor) (lengthened longest_query (kept s.editor.search_state s.editor.query) letter));
-    }) c.self-2.view_is
-    (simp (
-      c.in_ok-landing.ensures.same,
-      c.in_ok-landing.ensures.landing,
-      c.reading_of.ensures,
-      c.as_str-2.ensures.value,
-      c.in_ok-query.ensures.longer,
-      c.kept-kept.ensures.kept,
-      c.as_str.ensures.value,
-    ) at c.land.ensures)
-    ∙ ap (λ (x : Editor). (let s : EditorState g.row.D.Denot = record now { editor = x } in s))
-    (sym (letter-sought d e letter plain))
+    let plain : is_no_letter d letter ≡ false = ? in
+    ?

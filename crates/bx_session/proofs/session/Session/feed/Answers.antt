@@ -16,8 +16,9 @@ returns-clause-after_byte g c =
       h.0,
       h.1,
       (
-        after_byte_is ucd h.0 c.args.self.now c.enter.new.self c.paint_after.new.self c.args.byte c.in_ok-prompts.key
-            (sym c.in_ok-prompts.ensures.prompts ∙ c.if-not-prompts.false) c.in_ok-prompts.ensures.key h.2 c.in_ok-paint_after.ensures.ok,
+        after_byte_is ucd h.0 c.args.self.now c.enter.new.self c.paint_after.new.self c.args.byte c.in_ok-prompts.scroll c.in_ok-prompts.key
+            (sym c.in_ok-prompts.ensures.prompts ∙ c.if-not-prompts.false) c.in_ok-prompts.ensures.scroll c.in_ok-prompts.ensures.key h.2
+            c.in_ok-paint_after.ensures.ok,
         c.status-2.ensures,
       ),
     )

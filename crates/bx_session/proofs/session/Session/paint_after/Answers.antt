@@ -4,7 +4,7 @@ use Rattle.bx_grid.specs.Picture.{PictureState}
 use Rattle.bx_ucd.specs.Data.{Data}
 use Rattle.bx_editor.specs.Editor.{Editor, with_top}
 use Rattle.bx_editor.specs.Functions.{EditorState}
-use Rattle.bx_editor.specs.Picture.{next_top}
+use Rattle.bx_editor.specs.Picture.{top_behind}
 use Rattle.bx_session.proofs.Pictures.{IsUnseen, picture_height, picture_width, longer_by_both, painting_is, painting_queues, painting_appends, then_clip_longer, value_of}
 use Rattle.bx_session.specs.Painting.{text_in}
 use Rattle.bx_session.specs.Session.{Session, clip_after, painted_after, painting, then_clip}
@@ -39,8 +39,8 @@ returns-clause-ok g c =
     c.in-Ok-picture.ensures.picture
     (longer_by_both c.self.inside.taken c.self.inside.queue.items (painting (known_if c.self.inside.is_known c.self.inside.painted) c.in-Ok-picture.picture)
     c.append_both.new.queue.items (text_in c.clip_after-clip.result) c.self.invariant.0 c.in-Ok-append_both.ensures.bytes)
-    c.args.key (c.in-Ok-picture.ensures.top ∙ ap (next_top d s.editor) c.top-top.ensures) (c.clip_after-clip.ensures ∙ ap (λ (x : Editor). clip_after x c.args.key) drawn)
-    ∙ ap (λ (x : SessionState g.row.D.Denot). painted_after (g.D.BidiData.data x.tables) x.session c.args.key) c.self.view_is
+    c.args.scroll c.args.key (c.in-Ok-picture.ensures.top ∙ ap (λ t. top_behind d s.editor t c.args.scroll) c.top-top.ensures) (c.clip_after-clip.ensures ∙ ap (λ (x : Editor). clip_after x c.args.key) drawn)
+    ∙ ap (λ (x : SessionState g.row.D.Denot). painted_after (g.D.BidiData.data x.tables) c.args.scroll x.session c.args.key) c.self.view_is
 
 pub returns-clause-paints : goal.returns-clause-paints
 returns-clause-paints g c =
