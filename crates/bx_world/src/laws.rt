@@ -1,11 +1,5 @@
 //! Laws that bring runs into worlds, so that the screen of a run is right. The functions are empty: their contracts are the laws.
 
-ghost use Rattle.std.specs.Prelude.{◌≡◌, ℕ, false, Some};
-ghost use Rattle.bx_ucd.specs.Data.{Data};
-ghost use Rattle.bx_editor.specs.Editor.{Editor};
-ghost use Rattle.bx_editor.specs.Status.{input_column};
-ghost use Rattle.bx_editor.specs.Picture.{picture};
-ghost use Rattle.bx_world.specs.InputCursor.{StandsInLine};
 ghost use Rattle.bx_world.specs.Laws.{BeginsWithKeys, HeadlineInChangingWindows, HeadlineOfRuns, RunsArePlays, TurnsArePlays};
 
 /// A turn of a run, its input bytes and then its writing, is a schedule of steps in any world with the run's session,
@@ -29,11 +23,6 @@ pub fn runs_keep_headline()
 /// The headline for a run, as `runs_keep_headline` has it, in a window whose size changes meanwhile.
 pub fn windows_keep_headline()
     ensures { HeadlineInChangingWindows }
-{}
-
-/// tmp
-pub fn in_line_tmp()
-    ensures { (d : Data) (e : Editor) (top column : ℕ) → e.ended ≡ false → input_column d e ≡ Some column → StandsInLine d e (picture d e top) }
 {}
 
 /// A session restored from a journal starts with the text as edited by the journal's keys, except Saves and Quits.
