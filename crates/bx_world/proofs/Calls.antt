@@ -63,9 +63,10 @@ pub opened_is : {D : Type 0} (ucd : D → Data) (first s : SessionState D) (tabl
       told = true;
     })
 opened_is {D} ucd first s tables text height width base settings line screen is kept set queued empty shown =
-    rw (empty, shown) (opened (ucd s.tables) s.session height width (subst (λ t. QueuesPicture (ucd t) [] None s.session) (sym kept) queued)
-    (ap (λ (x : Session). x.editor.height) set ∙ ap (λ (x : SessionState D). x.session.editor.height) is,
-    ap (λ (x : Session). x.editor.width) set ∙ ap (λ (x : SessionState D). x.session.editor.width) is))
+    rw (empty, shown) (opened (ucd s.tables) s.session height width (subst (λ t. QueuesPicture (ucd t) [] None s.session) (sym kept) queued) (
+      ap (λ (x : Session). x.editor.height) set ∙ ap (λ (x : SessionState D). x.session.editor.height) is,
+      ap (λ (x : Session). x.editor.width) set ∙ ap (λ (x : SessionState D). x.session.editor.width) is,
+    ))
 
 pub opened_world : {D : Type 0} (ucd : D → Data) (first s : SessionState D) (tables : D) (text : List ℕ) (height width : ℕ) (base : Base)
     (settings : SettingsState) (line : List ℕ) (screen : Option Terminal) (w : WorldState D)
@@ -164,7 +165,8 @@ quiet_in_step d fault w b was none =
     let quiet = quiet_byte d fault s b need.1 in
     kept d w (unpainted_after_byte d fault s b) (told_after_key w (key_of_byte s b)) was quiet.pending
     (quiet_shows d s (unpainted_after_byte d fault s b) quiet was.state)
-    (λ owed on nowhere. quiet.editor.stands (was.cursor need.0 (sym quiet.editor.ended ∙ on) (sym quiet.editor.column ∙ nowhere))) keeps.known (λ on. keeps.size was.size on)
+    (λ owed on nowhere. quiet.editor.stands (was.cursor need.0 (sym quiet.editor.ended ∙ on) (sym quiet.editor.column ∙ nowhere)))
+    keeps.known (λ on. keeps.size was.size on)
 
 fed : (d : Data) (fault : Option StoreFault) (w : World) (b : ℕ) (new : Session) → IsInStep d w → new ≡ after_byte d fault w.session b
     → (is_painted w.session b ≡ true → FeedPaints d w.session b new) → IsInStep d (with_byte w b new)
@@ -172,8 +174,8 @@ fed d fault w b new was is paints = by_painting (is_painted w.session b) refl is
   u : Session
   u = unpainted_after_byte d fault w.session b
 
-  by_painting : (painted : Bool) → is_painted w.session b ≡ painted → new ≡ (if painted then painted_after d (scroll_at w.session b) u (key_of_byte w.session b) else u)
-      → IsInStep d (with_byte w b new)
+  by_painting : (painted : Bool) → is_painted w.session b ≡ painted
+      → new ≡ (if painted then painted_after d (scroll_at w.session b) u (key_of_byte w.session b) else u) → IsInStep d (with_byte w b new)
   by_painting true prompts same = fed_in_step d fault w b new was same (paints prompts)
   by_painting false none same = rw same (quiet_in_step d fault w b was none)
 

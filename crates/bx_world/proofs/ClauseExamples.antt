@@ -129,7 +129,8 @@ pub the_cursor_is_in_the_query : (store store' : StoreState) (new : World) (row 
     → (picture tables (after_events tables sought (clause (codes "ab") 2 30 Auto plain false refl).0) new.session.editor.top).row ≡ row → row ≡ 1
 the_cursor_is_in_the_query store store' new row clause on is =
     let found = clause (codes "ab") 2 30 Auto plain false refl in
-    let one = one_key (codes "ab") 2 30 0x17 Find found.0 (λ bs. (decoding bs).keys) refl found.1.events_are (found.1.keys found.0 [] (sym (append-nil found.0))) in
+    let one = one_key (codes "ab") 2 30 0x17 Find found.0 (λ bs. (decoding bs).keys) refl found.1.events_are
+    (found.1.keys found.0 [] (sym (append-nil found.0))) in
     let has = ap (λ (xs : List Event). input_column tables (after_events tables sought xs)) one.1 ∙ query_column one.0 in
     let height = ap (λ (xs : List Event). (after_events tables sought xs).height) one.1 ∙ query_height one.0 in
     omega (arith, is, (found.1.in_line 13 on has).row, height)
@@ -157,11 +158,13 @@ a_save_stores_the_text contents store' new clause none =
 
 -- a count that is one higher is of one Save that failed
 pub a_failed_save_is_counted : (contents : Option (List ℕ)) (store' : StoreState) (new : World)
-    → (clause : HeadlineFromOpening tables (around (opened (codes "ab")) 1 5) (record { contents = contents; faults = record { count = 4; latest = None } }) ((Byte 0x13, ok) ∷ []) new store')
+    → (clause : HeadlineFromOpening tables (around (opened (codes "ab")) 1 5)
+    (record { contents = contents; faults = record { count = 4; latest = None } }) ((Byte 0x13, ok) ∷ []) new store')
     → store'.faults.count ≡ 5 → failed_saves tables (opened (codes "ab")).editor (clause (codes "ab") 1 5 Auto plain false refl).0 ≡ 1
 a_failed_save_is_counted contents store' new clause count =
     let found = clause (codes "ab") 1 5 Auto plain false refl in
-    let all : store'.faults.count ≡ 4 + failed_saves tables (opened (codes "ab")).editor found.0 = found.1.failures (subst (λ n. n < greatest) (sym count) (lit< tt)) in
+    let all : store'.faults.count ≡ 4 + failed_saves tables (opened (codes "ab")).editor found.0 =
+    found.1.failures (subst (λ n. n < greatest) (sym count) (lit< tt)) in
     omega (arith, count, all)
 
 -- from any world that has such a session

@@ -61,10 +61,12 @@ byte_fits : (d : Data) (fault : Option StoreFault) (old new : World) (b : ℕ) (
     → Fits old → Fits new
 byte_fits d fault old new b (Ok done) is was =
     let fed = byte_fed d fault old new b (Ok done) is in
-    subst Fits (sym is) (fed_fits d fault old b (after_byte d fault old.session b) (is_painted old.session b) (scroll_behind old.session.editor (key_of_byte old.session b)) was (ap (λ (w : World). w.session.editor) (sym is) ∙ fed.editor))
+    subst Fits (sym is) (fed_fits d fault old b (after_byte d fault old.session b) (is_painted old.session b)
+    (scroll_behind old.session.editor (key_of_byte old.session b)) was (ap (λ (w : World). w.session.editor) (sym is) ∙ fed.editor))
 byte_fits d fault old new b (Err (faults.Session refused.Paint)) is was =
     let fed = byte_fed d fault old new b (Err (faults.Session refused.Paint)) is in
-    subst Fits (sym is.0) (fed_fits d fault old b (owing_after_byte d fault old.session b) false (scroll_behind old.session.editor (key_of_byte old.session b)) was (ap (λ (w : World). w.session.editor) (sym is.0) ∙ fed.editor))
+    subst Fits (sym is.0) (fed_fits d fault old b (owing_after_byte d fault old.session b) false
+    (scroll_behind old.session.editor (key_of_byte old.session b)) was (ap (λ (w : World). w.session.editor) (sym is.0) ∙ fed.editor))
 byte_fits d fault old new b (Err (faults.Session refused.Edit)) is was =
     let fed = byte_fed d fault old new b (Err (faults.Session refused.Edit)) is in
     let same : new.session.editor ≡ old.session.editor = fed.editor ∙ sym (refused_fits d fault old.session.editor (key_of_byte old.session b)) in

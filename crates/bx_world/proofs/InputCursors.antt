@@ -77,7 +77,10 @@ shown_part w before [] cell s = by (nat_le (before + cell) w) refl where
 shown_part w before (g ∷ gs) cell s = by (nat_le (before + cell) w) refl (nat_lt g.columns cell) refl (shown_part w before gs (cell - g.columns) s) where
   by : (fits : Bool) → nat_le (before + cell) w ≡ fits → (behind : Bool) → nat_lt g.columns cell ≡ behind
       → (shown_line w before gs (cell - g.columns) ≡ Some s → Part w before gs (cell - g.columns) s)
-      → (if fits then Some (record { glyphs = g ∷ gs; column = before + cell }) else if behind then shown_line w before gs (cell - g.columns) else None) ≡ Some s
+      → (if fits
+      then Some (record { glyphs = g ∷ gs; column = before + cell })
+      else if behind then shown_line w before gs (cell - g.columns) else None)
+      ≡ Some s
       → Part w before (g ∷ gs) cell s
   by true fits behind own rest is = whole_is w before (g ∷ gs) cell s (leb-true (before + cell) w fits) is
   by false full true own rest is =
@@ -115,7 +118,8 @@ in_last_row d e top column on is =
       row = row_of (rows d e) e.place - row_of (rows d e) top;
       column = cell_of e.width (rows d e) e.place - 1;
     } in
-    subst (λ (p : PictureState). IsLast p e.height column) (ap (λ ended. if ended then blank_picture e.height e.width else text_picture d e top (rows d e)) (sym on))
+    subst (λ (p : PictureState). IsLast p e.height column)
+    (ap (λ ended. if ended then blank_picture e.height e.width else text_picture d e top (rows d e)) (sym on))
     (subst (λ (c : Option ℕ). IsLast (with_cursor c under) e.height column) (sym is) (record { row = refl; column_is = refl }))
 
 -- the column of a cursor in the input line behind a text
