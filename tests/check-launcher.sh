@@ -40,7 +40,7 @@ cd "$folder/files" || exit 1
 
 # shellcheck source=tests/report.sh
 . "$top/tests/report.sh"
-for part in person recorder joining refusals printing ends modes editor input keys callers; do
+for part in person recorder joining refusals printing ends modes editor input keys comfort callers; do
     # shellcheck source=/dev/null
     . "$top/tests/launcher/$part.sh"
 done
@@ -56,6 +56,7 @@ check_terminal_modes
 check_editor
 check_input
 check_keys
+check_comfort
 check_callers
 echo "$passed passed, $failed failed, $skipped skipped"
 [ "$failed" = 0 ] || exit 1

@@ -76,9 +76,9 @@ type_keys() { # NAME FILE-OF-KEYS
     terminal paste-buffer -r -d -b "$1" -t "$1"
 }
 
-# Whether this is the last row.
+# Whether this is the left side of the last row, without the hint of a start. On the right are the file's name and a direction.
 has_row() { # NAME ROW
-    [ "$(terminal capture-pane -p -t "$1" 2>/dev/null | sed -n '24s/ *$//p')" = "$2" ]
+    [ "$(terminal capture-pane -p -t "$1" 2>/dev/null | sed -n '24{s/ F1 keys .*//;s/ \{2,\}\([^ ]* \)\{0,1\}\(ltr\|rtl\)$//;s/ *$//p}')" = "$2" ]
 }
 
 # Whether processes have ended. A zombie counts: its memory and files are gone.

@@ -1,6 +1,6 @@
 #!/bin/sh
 # check-sessions.sh [--only NUMBER] [--max COUNT] [SESSIONS..]: runs the program on recorded sessions, and compares output, status
-# and the resulting file byte by byte. For a refused command line only the refusal is compared. No other file may be left. SESSIONS
+# and the resulting files byte by byte. For a refused command line only the refusal is compared. No other file may be left. SESSIONS
 # is a folder in the form that sessions.sh describes, or an archive of one; by default all archives of tests/data. --only selects
 # one session of each, and --max limits the number of differing sessions that are shown, 20 by default. The last line has the
 # totals. Exit status 1: a session differs or none was run.
@@ -54,11 +54,13 @@ run_session() { # SESSION
         compare 'standard error' "$scratch/stderr" "$1/want.stderr"
     fi
     compare 'the file' "$place/file" "$1/want.file"
-    for left in "$place"/* "$place"/.[!.]*; do
-        case $left in
-        "$place/file" | "$place/tables" | "$place/.[!.]*") ;;
-        *) differ "left: ${left##*/}" ;;
+    for name in "$place"/* "$place"/.[!.]* "$1/want.beside"/*; do
+        name=${name##*/}
+        case $name in
+        file | tables | '*' | '.[!.]*') ;;
+        *) compare "the file '$name'" "$place/$name" "$1/want.beside/$name" ;;
         esac
+        [ "$name" = tables ] || [ ! -d "$place/$name" ] || [ -d "$1/$name" ] || differ "left: $name"
     done
 }
 

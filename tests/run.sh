@@ -20,7 +20,7 @@ cd "$top" || exit 1
 parts() {
     cat <<'TEXT'
 terminal 1500 check-launcher.sh words tables size access refused opening checks printing kill leftovers modes nonblock controlling title outer
-editing 1500 check-launcher.sh edit breaks quit long end file line stop install caller paste input keys joining
+editing 1500 check-launcher.sh edit breaks quit long end file line stop install caller paste input keys comfort joining
 saves 1500 check-saves.sh --quick
 host 1500 check-host.sh
 recovery 1500 check-recovery.sh 30

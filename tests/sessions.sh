@@ -1,7 +1,8 @@
 # shellcheck shell=sh
 # Recorded sessions. Each is a folder whose name is a number: `args` has the program's words, one a line, `keys` the input, and
 # `file` the edited file, if it exists. `want.stdout`, `want.stderr`, `want.status` and `want.file` have the expected output,
-# status and final `file`. The tables are in the folder `tables` beside the sessions.
+# status and final `file`. The folder `beside`, in some sessions, has the files that are next to `file` at the start, and
+# `want.beside` all of them afterwards; without it, there must be none. The tables are in the folder `tables` beside the sessions.
 
 # Prints the folder of the sessions: SESSIONS itself, or a folder in SCRATCH with SESSIONS unpacked, if it is a tar archive.
 sessions_of() { # SESSIONS SCRATCH
@@ -27,6 +28,7 @@ lay_out() { # SESSION FOLDER
     mkdir "$2"
     ln -s "${1%/*}/tables" "$2/tables"
     [ ! -e "$1/file" ] || cp -r "$1/file" "$2/file"
+    [ ! -d "$1/beside" ] || cp "$1/beside/"* "$2/"
 }
 
 # Runs a command with the words of a session appended.

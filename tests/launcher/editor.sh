@@ -5,14 +5,14 @@
 # the file as it was opened; `folder/files`, the working folder, is empty between two checks.
 
 # Prints the screen that the program alone, without the host, makes of a file and keys, in a window of this size, in the
-# form of `settled_screen`. KEYS has the editor's own bytes, in the notation of printf; a FILE that is not there is opened as a
+# form of `settled_screen`. The file's name is `note`. KEYS has the editor's own bytes, in the notation of printf; a FILE that is not there is opened as a
 # new one.
 alone() { # ROWS COLS FILE KEYS
     cp "$3" "$folder/files/alone" 2>/dev/null || rm -f "$folder/files/alone"
     # shellcheck disable=SC2059 # the keys have escapes
     printf "$4" | "$editor" --rows "$1" --cols "$2" --classes "$top/data/DerivedBidiClass.txt" --brackets "$top/data/BidiBrackets.txt" \
         --mirroring "$top/data/BidiMirroring.txt" --joining "$top/data/ArabicShaping.txt" --characters "$top/data/UnicodeData.txt" \
-        "$folder/files/alone" >"$folder/bytes" 2>/dev/null
+        --name note "$folder/files/alone" >"$folder/bytes" 2>/dev/null
     rm -f "$folder/files/alone"
     rm -f "$folder/shown"
     printf 'stty raw -echo; cat "%s/bytes"; : >"%s/shown"; exec sleep 600\n' "$folder" "$folder" >"$folder/show"
@@ -40,7 +40,9 @@ part_reads() { sleep 0.5; }
 check_edit() {
     make_note
     start 8 40 "$top/bidi-edit" note
-    same_screen 'edit, opened' "$(alone 8 40 "$folder/opened" '')"
+    # the last row has a hint until a key is pressed
+    type_keys Home
+    same_screen 'edit, opened' "$(alone 8 40 "$folder/opened" '\033[H')"
     type_keys -l 'new א '
     type_keys Right Left M-Right Right
     typed='new א \033[C\033[D\006\033[C'
@@ -183,7 +185,8 @@ check_install() {
     sh "$top/tools/install.sh" "$folder/prefix" >/dev/null
     printf 'ab' >note
     start 8 60 "$folder/prefix/bin/bidi-edit" note
-    same_screen 'install, opened' "$(alone 8 60 note '')"
+    type_keys Home
+    same_screen 'install, opened' "$(alone 8 60 note '\033[H')"
     type_keys C-q
     finish install 0
     sh "$top/tools/install.sh" --uninstall "$folder/prefix" >/dev/null

@@ -67,7 +67,9 @@ check_bad_modes() {
     printf 'abc שָׁלוֹם def\nsecond line\n\nfourth' >note
     cp note "$folder/opened"
     start 8 50 "$top/bidi-edit" note
-    same_screen 'modes, whatever another program left' "$(alone 8 50 "$folder/opened" '')"
+    # the last row has a hint until a key is pressed
+    type_keys Home
+    same_screen 'modes, whatever another program left' "$(alone 8 50 "$folder/opened" '\033[H')"
     same 'modes, whatever another program left: flags' "$(modes_of person)" '0 0 0 7 1 1'
     type_keys C-q
     finish 'modes, of another program' 0

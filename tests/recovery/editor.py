@@ -18,8 +18,22 @@ MOVES = ["back", "forward", "text start", "text end"]
 NAMED = dict(zip("eEoOpiIfPlra", CONTROLS))
 # what ends those that are put round a region
 CLOSERS = dict.fromkeys("eEoO", NAMED["p"]) | dict.fromkeys("iIf", NAMED["P"])
+# letters and digits, and signs of numbers between digits
+WORD = "(?:[a-z0-9\u05d0-\u061b\u061d-\u064a]|(?<=[0-9])[.,:](?=[0-9]))+"
 # what is typed, and the kind of the next letter, which goes on with it
 GOES_ON = [("word", "word"), ("word", "blanks"), ("blanks", "blanks")]
+
+
+def word_before(text, place):
+    """The last start of a word or line before the place, else the place."""
+    starts = [0, *(m.start() for m in re.finditer(WORD, text)), *(m.end() for m in re.finditer("\n", text))]
+    return max((at for at in starts if at < place), default=place)
+
+
+def word_behind(text, place):
+    """The first start of a word or end of a line after the place, else the place."""
+    stops = [len(text), *(m.start() for m in re.finditer(WORD + "|\n", text))]
+    return min((at for at in stops if at > place), default=place)
 
 
 def kind_of(character):
@@ -37,10 +51,13 @@ class Editor(Search):
         self.past, self.future = [], []
         # the lengths of the past at which undo groups begin, and at which the text is the stored one
         self.groups, self.stored = set(), 0
-        # what is typed: no, word, blanks, erasing, deleting, or of a paste paste (nothing yet) or pasting
+        # what is typed: no, word, blanks, erasing, deleting, or of a paste paste (nothing yet) or pasting, or spent, where the
+        # first line of a paste was all that an input line took of it
         self.typing = "no"
         # a mark that Select set is soft: fresh until the next key, and then old
         self.mark, self.soft, self.held = None, "no", ""
+        # whether a whole line is held
+        self.whole = False
         # a question is None, or for a line, a name or a code; what Tell told stands until the next key
         self.ask, self.answer, self.told = None, "", ""
         # the direction of all paragraphs: 0 is auto, 1 ltr, 2 rtl
@@ -66,27 +83,33 @@ class Editor(Search):
     def remove(self, start, end, goes_on=False):
         self.edit(self.text[:start] + self.text[end:], start, goes_on)
 
-    def put_in(self, new, goes_on=False):
+    def indent(self):
+        """The blanks and tabs that the line begins with, those before the place."""
+        line = self.text[self.text.rfind("\n", 0, self.place) + 1:self.place]
+        return line[:len(line) - len(line.lstrip(" \t"))]
+
+    def put_in(self, new, goes_on=False, is_indented=False):
         """Puts a text at the place, or in place of the selection, as an edit of the same undo group."""
         if self.is_selection():
             self.remove(*self.region())
             goes_on = True
+        new += self.indent() if is_indented else ""
         self.edit(self.text[:self.place] + new + self.text[self.place:], self.place + len(new), goes_on)
 
     def insert(self, letter, byte=None):
-        """A letter that is typed, by `byte` where its own bytes are not those that the editor gets."""
+        """A letter that is typed. `byte` is what Enter sends, which ends a paste and indents a line."""
         was, self.typing = self.typing, "no"
-        is_paste = was in ("paste", "pasting")
-        if self.ask:
+        is_paste = was in ("paste", "pasting", "spent") and not byte
+        if self.ask or self.search:
             self.typing = was if is_paste else "no"
-            self.answer_by(letter, is_paste)
-        elif self.search is None:
+            if self.typing != "spent":
+                self.answer_by(letter, is_paste) if self.ask else self.seek_by(letter, is_paste)
+        elif byte:
+            self.put_in(letter, False, True)
+        else:
             kind = kind_of(letter)
             self.put_in(letter, was == "pasting" or (was, kind) in GOES_ON)
             self.typing = "pasting" if is_paste else kind
-        else:
-            self.typing = was if is_paste else "no"
-            self.seek_by(letter, is_paste)
         self.age()
         self.typed(byte or letter.encode())
 
@@ -115,27 +138,29 @@ class Editor(Search):
         self.ends[len(self.keys)] = self.text
 
     def answer_by(self, letter, is_paste):
-        """What a letter does in a question. A paste answers none."""
-        if self.ask == "line":
-            if letter == "\n" and not is_paste:
-                self.ask = None
-                self.go()
-            elif letter in "0123456789:,":
-                self.answer = (self.answer + letter)[:16]
-        elif not is_paste and self.ask == "name":
-            if letter in NAMED:
-                self.ask = None
-                self.put_named(letter)
-            elif letter in "u+":
-                self.ask = "code"
-            elif letter == "\n":
-                self.ask = None
-        elif not is_paste:
-            if letter == "\n":
-                self.ask = None
-                self.put_code()
-            elif letter in "0123456789abcdefABCDEF":
-                self.answer = (self.answer + letter)[:6]
+        """What a letter does in a question. A paste answers none, but goes into the answer."""
+        if self.ask == "name":
+            if not is_paste:
+                self.answer_by_name(letter)
+        elif letter == "\n" and is_paste:
+            self.typing = "spent"
+        elif letter == "\n":
+            self.answer_by_line_end()
+        elif letter in ("0123456789:," if self.ask == "line" else "0123456789abcdefABCDEF"):
+            self.type_in_line(letter)
+
+    def answer_by_name(self, letter):
+        if letter in NAMED:
+            self.ask = None
+            self.put_named(letter)
+        elif letter in "u+":
+            self.ask, self.spot = "code", 0
+        elif letter == "\n":
+            self.ask = None
+
+    def answer_by_line_end(self):
+        asked, self.ask = self.ask, None
+        self.go() if asked == "line" else self.put_code()
 
     def go(self):
         """Goes to the line and letter of the answer, both from 1; numbers that are too large are the last."""
@@ -172,16 +197,23 @@ class Editor(Search):
 
     def answers(self, name):
         """Whether a question takes a key. Any other key but a repaint ends it first."""
-        if name in ("erase", "delete"):
-            if self.ask == "code" and not self.answer:
-                self.ask = "name"
-            self.answer = self.answer[:-1]
-        elif name in ("copy", "cancel"):
+        if name in ("copy", "cancel"):
             self.ask = None
-        elif name != "repaint":
+        elif name == "erase" and self.ask == "code" and not self.answer:
+            self.ask = "name"
+        elif not (name == "repaint" or name in ("erase", "delete") and self.ask == "name" or self.is_of_line(name)):
             self.ask = None
             return False
         return True
+
+    def word_ends(self, text, place):
+        """Where the words before and after a place begin, in an input line."""
+        return word_before(text, place), word_behind(text, place)
+
+    def put_in_line(self):
+        """Types what is held up to its first line end or tab in the input line."""
+        for letter in re.split("[\n\t]", self.held)[0]:
+            self.answer_by(letter, False) if self.ask else self.seek_by(letter, False)
 
     def taken(self):
         """What Copy and Cut take: the region, else the line."""
@@ -189,21 +221,11 @@ class Editor(Search):
             return self.region()
         return self.text.rfind("\n", 0, self.place) + 1, self.text.find("\n", self.place) + 1 or len(self.text)
 
-    def word_before(self):
-        """The last start of a word or line before the place, else the place."""
-        starts = [0, *(m.start() for m in re.finditer("[a-z0-9\u05d0-\u061b\u061d-\u064a]+", self.text)), *(m.end() for m in re.finditer("\n", self.text))]
-        return max((at for at in starts if at < self.place), default=self.place)
-
-    def word_behind(self):
-        """The first start of a word or end of a line after the place, else the place."""
-        stops = [len(self.text), *(m.start() for m in re.finditer("[a-z0-9\u05d0-\u061b\u061d-\u064a]+|\n", self.text))]
-        return min((at for at in stops if at > self.place), default=self.place)
-
     def erase(self, name, was):
         """A selection is all that a key removes; letters removed one after another are of one undo group."""
         at = self.place
-        start, end = {"erase": (at - 1, at), "delete": (at, at + 1), "erase word": (self.word_before(), at),
-                      "delete word": (at, self.word_behind())}[name]
+        start, end = {"erase": (at - 1, at), "delete": (at, at + 1), "erase word": (word_before(self.text, at), at),
+                      "delete word": (at, word_behind(self.text, at))}[name]
         if self.is_selection():
             self.remove(*self.region())
         elif 0 <= start < end <= len(self.text):
@@ -228,16 +250,30 @@ class Editor(Search):
         self.place = {"back": max(0, self.place - 1), "forward": min(end, self.place + 1), "text start": 0, "text end": end}[name]
 
     def take(self, name):
-        """Copy and Cut. Where there is nothing to take, what was held stays."""
+        """Copy and Cut. Where there is nothing to take, what was held stays. A copied selection stays selected."""
         start, end = self.taken()
-        self.held, self.mark, self.soft = self.text[start:end] or self.held, None, "no"
+        if start < end:
+            self.held, self.whole = self.text[start:end], self.mark in (None, self.place)
+        if name == "cut" or self.soft == "no":
+            self.mark, self.soft = None, "no"
         if name == "cut" and start < end:
             self.remove(start, end)
+
+    def put(self):
+        """Puts what is held at the place, but a whole line over the place's line, unless a selection gives way."""
+        if not self.whole or self.is_selection():
+            self.put_in(self.held)
+            return
+        start = self.text.rfind("\n", 0, self.place) + 1
+        new = self.held
+        if not new.endswith("\n") and self.text[start:start + 1] not in ("", "\n"):
+            new += "\n"
+        self.edit(self.text[:start] + new + self.text[start:], self.place + len(new))
 
     def begin_question(self, name):
         if name == "go to":
             self.unselect()
-        self.ask, self.answer = "line" if name == "go to" else "name", ""
+        self.ask, self.answer, self.spot = "line" if name == "go to" else "name", "", 0
 
     def select(self):
         """Select, which comes before a move with Shift: sets a mark, or has the one that it set stay for the next key."""
@@ -277,7 +313,7 @@ class Editor(Search):
         elif name == "direction":
             self.direction = (self.direction + 1) % 3
         elif name == "put" and self.held:
-            self.put_in(self.held)
+            self.put()
 
     def key(self, name):
         """A key of BYTES. `was` is how the key before it could go on."""
@@ -305,12 +341,12 @@ class Editor(Search):
         self.typed(b"\x11")
 
     def row(self):
-        """The last row: * or - (changed or not), line and letter of the place from 1, and what is asked or told."""
+        """The left side of the last row: * or - (changed or not), line and letter of the place from 1, and what is asked or told."""
         lines = self.text[:self.place].split("\n")
         row = "%s %d:%d" % ("*" if self.changed else "-", len(lines), len(lines[-1]) + 1)
         if self.search:
             return f"{row} {self.prompt()}".rstrip()
-        prompt = {None: self.told, "line": "line: " + self.answer, "name": "insert:", "code": "insert: U+" + self.answer}[self.ask]
+        prompt = {None: self.told, "line": "line: " + self.answer, "name": "insert: i I f isolate P end l r a mark n j joiner e E o O p u code", "code": "insert: U+" + self.answer}[self.ask]
         return f"{row} {prompt}".rstrip()
 
     def recovered(self):

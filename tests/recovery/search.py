@@ -1,4 +1,4 @@
-"""The searches of the plain model of editor.py, for letters to find or to replace."""
+"""The searches of the plain model of editor.py, for letters to find or to replace, and the input lines of its prompts."""
 
 # what a search passes over: the characters that turn directions, and marks of a direction
 CONTROLS = "\u202a\u202b\u202d\u202e\u202c\u2066\u2067\u2068\u2069\u200e\u200f\u061c"
@@ -12,13 +12,15 @@ class Search:
     def __init__(self):
         # a search is None, begun or typed, or asks for the replacement with begun or with typed, or is at a match, replacing
         self.search, self.query, self.origin = None, "", 0
+        # the cursor in the input line of a prompt
+        self.spot = 0
         # what a search is for, find or replace; the text that takes a match's place, the place of the match that is shown, and
         # the number of those replaced
         self.aim, self.replacement, self.at, self.count = "find", "", 0, 0
 
     def begin_search(self, aim):
         self.unselect()
-        self.search, self.origin, self.aim = "begun", self.place, aim
+        self.search, self.origin, self.aim, self.spot = "begun", self.place, aim, len(self.query)
 
     def letters_of(self, text):
         """The letters that a search compares, each as the one that it is found as."""
@@ -35,20 +37,71 @@ class Search:
             self.begin_search("find")
 
     def seek_by(self, letter, is_paste):
-        """What a letter does in a search. A paste asks for no replacement, and replaces nothing."""
-        is_query = self.search in ("begun", "typed")
-        if letter == "\n" and is_query and self.aim == "find":
+        """What a letter does in a search. A paste ends none, asks for no replacement, and replaces nothing."""
+        if letter == "\n" and is_paste:
+            self.typing = self.typing if self.search == "replacing" else "spent"
+        elif letter == "\n" and self.search in ("begun", "typed") and self.aim == "find":
             self.search = None
         elif letter == "\n":
-            if not is_paste:
-                self.answer_by_enter()
-        elif letter == "\t" or self.search == "replacing":
-            pass
-        elif is_query:
-            self.look_for(self.kept(self.query) + letter)
-        else:
-            # as long as the editor's, as is the query in `look_for`
-            self.search, self.replacement = "with typed", (self.kept(self.replacement) + letter)[:64]
+            self.answer_by_enter()
+        elif letter != "\t" and self.search != "replacing":
+            self.type_in_line(letter)
+
+    # ---- the input line
+
+    def line_name(self):
+        """The name of what is typed in the input line, if there is one."""
+        if self.ask:
+            return None if self.ask == "name" else "answer"
+        return {"begun": "query", "typed": "query", "with begun": "replacement", "with typed": "replacement"}.get(self.search)
+
+    def set_line(self, text, spot, searches_on):
+        """Takes an edited line. A query is then sought, on from the place or from where the search began."""
+        setattr(self, self.line_name(), text)
+        self.spot = spot
+        self.count_as_typed()
+        if not self.ask and self.search == "typed":
+            self.place = self.place if searches_on else self.origin
+            self.look_from(self.place)
+
+    def count_as_typed(self):
+        """What was begun is typed now."""
+        if not self.ask:
+            self.search = {"begun": "typed", "with begun": "with typed"}.get(self.search, self.search)
+
+    def type_in_line(self, letter):
+        """Puts a letter in at the line's cursor, or in place of a line that was begun."""
+        is_begun = not self.ask and self.search in ("begun", "with begun")
+        text, spot = ("", 0) if is_begun else (getattr(self, self.line_name()), self.spot)
+        is_at_end = spot == len(text)
+        most = {"line": 16, "code": 6}.get(self.ask, 64)
+        if len(text) < most:
+            text, spot = text[:spot] + letter + text[spot:], spot + 1
+        elif not is_at_end:
+            return
+        self.set_line(text, spot, is_at_end)
+
+    def is_of_line(self, name):
+        """Whether a key is one of the input line, which it then obeys."""
+        if not self.line_name():
+            return False
+        text, spot = getattr(self, self.line_name()), self.spot
+        parts = {"erase": (max(spot - 1, 0), spot), "delete": (spot, min(spot + 1, len(text))),
+                 "erase word": (self.word_ends(text, spot)[0], spot), "delete word": (spot, self.word_ends(text, spot)[1])}
+        if name in parts:
+            start, end = parts[name]
+            if start < end:
+                self.set_line(text[:start] + text[end:], start, False)
+        elif name in ("back", "forward"):
+            self.spot = max(spot - 1, 0) if name == "back" else min(spot + 1, len(text))
+            self.count_as_typed()
+        elif name == "put":
+            self.put_in_line()
+        elif name not in ("select", "mark", "cut"):
+            return False
+        return True
+
+    # ---- the search
 
     def answer_by_enter(self):
         """What Enter does where letters are to be replaced."""
@@ -58,14 +111,6 @@ class Search:
             self.ask_replacement()
         else:
             self.show_match()
-
-    def kept(self, text):
-        """What a letter is added to; nothing where a search was begun or the replacement just asked for: the old one gives way."""
-        return "" if self.search in ("begun", "with begun") else text
-
-    def look_for(self, query):
-        self.query, self.search = query[:64], "typed"
-        self.look_from(self.place)
 
     def spans(self):
         """Where the query stands, and where it ends there, whatever named characters are between its letters."""
@@ -114,9 +159,8 @@ class Search:
 
     def query_takes(self, name):
         """What a key does while the query is typed. Returns False for one that ends the search and is then obeyed without it."""
-        if name in ("erase", "delete"):
-            self.place = self.origin
-            self.look_for(self.kept(self.query)[:-1])
+        if self.is_of_line(name):
+            pass
         elif name in ("find", "find next"):
             self.search = "typed"
             self.look_on()
@@ -132,8 +176,8 @@ class Search:
 
     def replacement_takes(self, name):
         """What a key does while the replacement is typed. Returns as `query_takes`."""
-        if name in ("erase", "delete"):
-            self.search, self.replacement = "with typed", self.kept(self.replacement)[:-1]
+        if self.is_of_line(name):
+            pass
         elif name in ("find", "find next", "find back"):
             self.begin_search("find")
         elif name == "replace":
@@ -163,7 +207,7 @@ class Search:
             self.search = "typed"
             self.look_from(self.place)
             if self.matches():
-                self.search, self.count = "with begun", 0
+                self.search, self.count, self.spot = "with begun", 0, len(self.replacement)
 
     def show_match(self):
         """Asks about the match at the place."""
@@ -202,6 +246,6 @@ class Search:
     def prompt(self):
         """What the last row asks."""
         if self.search == "replacing":
-            return "Enter replace ^W next F4 all ^C end"
+            return "Enter replace F3 next F4 rest ^C end"
         word, text = (self.aim, self.query) if self.search in ("begun", "typed") else ("with", self.replacement)
         return f"{word}: {text if text < chr(0x5d0) else text[::-1]}"

@@ -3,6 +3,7 @@
 use crate::answers::{Answers, letter_of_refusal};
 use crate::looks::Seen;
 use crate::scene::{Act, Look, Scene};
+use crate::stage::write_by_another;
 use bx_session::{Refused, Session, Status};
 use bx_store::{MemoryStore, Store};
 use bx_ucd::BidiData;
@@ -43,6 +44,7 @@ impl<D: BidiData + Drop> Alone<D> {
                 Act::Take(step) => self.take(*step, answers)?,
                 Act::Replay(byte) => self.replay(*byte, answers)?,
                 Act::EndReplay => self.end_replay(answers)?,
+                Act::Written(digits) => write_by_another(&mut self.store, self.alloc, digits)?,
                 Act::Look(look) => self.look(look, &scene.file, &mut answers.looks)?,
             }
         }

@@ -1,7 +1,7 @@
 //! What a scene's looks find in a session, with or without a world.
 
 use crate::answers::{add_flag, add_text};
-use crate::scene::Look;
+use crate::scene::{Look, text_of};
 use bx_session::{Prompt, SearchPurpose, SearchState, Session};
 use bx_store::{MemoryStore, Store};
 use bx_ucd::BidiData;
@@ -74,9 +74,19 @@ impl<D: BidiData + Drop> Seen<'_, D> {
             Look::Changed => add_flag(looks, session.changed()),
             Look::Ended => add_flag(looks, session.ended()),
             Look::Stored => add_text(looks, self.store.contents(), self.file),
+            Look::StoredAs(name) => self.add_stored_as(looks, name),
             Look::Pending => add_bytes(looks, session.pending()),
             Look::Text => self.add_own_text(looks),
             Look::Told | Look::Line | Look::Shown | Look::Rows { .. } => Ok(()),
+        }
+    }
+
+    /// Appends what the store has under a name; `none` where it has none.
+    fn add_stored_as(&self, looks: &mut String, digits: &str) -> Result<(), AllocError> {
+        let name = text_of(self.alloc, digits)?;
+        match self.store.kept(Some(name.as_str())) {
+            Some(text) => add_text(looks, text, self.file),
+            None => looks.push_str("none"),
         }
     }
 

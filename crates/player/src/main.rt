@@ -65,7 +65,16 @@
 //!     S38           at most 38 of the pending bytes go to the line
 //!     R11           the terminal reads at most 11 bytes of the line
 //!     J6178         a journal of these bytes is replayed; each byte is a step
-//!     clipboard     from the beginning, what is copied or cut also goes out to the clipboard; wherever the word stands, no step
+//!     A6162         another program writes these bytes over what the store has; no step, and in the modes `step` and `alone` only
+//!
+//! words that say how the session works from the beginning, wherever they stand, and are no steps:
+//!
+//!     clipboard     what is copied or cut also goes out to the clipboard
+//!     view          the text can only be looked at
+//!     indent        a new line is indented as the last one
+//!     spaces=4      Tab puts in blanks up to the next of these stops
+//!     name=6e       the file's name, as digits; `name=` is an empty one
+//!     taken=6e      something has this name already, so that no text is saved under it
 //!
 //! and words that only look:
 //!
@@ -74,13 +83,14 @@
 //!     seek          `off`, `begun`, `typed`, `with-begun`, `with-typed` or `replacing`
 //!     aim           `find` or `replace`
 //!     query  other  the text that is sought, and the one in its place
-//!     ask           `off`, `line`, `name` or `code`
+//!     ask           `off`, `line`, `name`, `code`, `file` or `overwrite`
 //!     answer        the answer to that question so far
 //!     changed       whether there are changes that are not saved
 //!     ended         whether the session has ended
 //!     told          whether the session was told the window's last size
 //!     shown         whether the terminal shows the picture last painted
 //!     text  kept    the text, and what the store has
+//!     kept=6e       what the store has under this name, given as digits; `none` for nothing
 //!     pending       the bytes that are not sent yet
 //!     line          the bytes that are sent and not read yet
 //!     rows=1;3:ab|cd
@@ -96,7 +106,7 @@
 //!
 //!     o    Ok
 //!     e    Ok, for a byte after which the session has ended
-//!     f    Ok, for a Save that failed without a failing CALL: the store ran out of memory
+//!     f    Ok, for a Save that failed without a failing CALL: the store ran out of memory, or another program was in the way
 //!     s    a told size is refused
 //!     w    a window's size is refused
 //!     E    out of memory for a key: nothing has changed

@@ -72,7 +72,7 @@ fn stage_of<'a>(
     Ok(Ok(Stage {
         alloc,
         world,
-        store: scene.store(alloc),
+        store: scene.store(alloc)?,
         terminal,
         taken: 0,
         may_fail: scene.failing.is_some(),
@@ -129,7 +129,7 @@ fn play_alone(
             let mut alone = Alone {
                 alloc,
                 session,
-                store: scene.store(alloc),
+                store: scene.store(alloc)?,
                 may_fail: scene.failing.is_some(),
             };
             alone.step_through(scene, answers).map(|()| Outcome::Played)

@@ -49,6 +49,8 @@ pub enum Look<'a> {
     Told,
     /// The store's content.
     Stored,
+    /// What the store has under a name, given as digits.
+    StoredAs(&'a str),
     /// The bytes not yet sent.
     Pending,
     /// The bytes sent, but not yet read.
@@ -74,6 +76,8 @@ pub enum Act<'a> {
     Replay(u8),
     /// The end of a journal.
     EndReplay,
+    /// Another program writes these bytes, given as digits, over the text of the store.
+    Written(&'a str),
     Look(Look<'a>),
 }
 
@@ -90,7 +94,7 @@ pub struct Scene<'a> {
     pub failing: Option<u64>,
     /// Whether text that is copied or cut goes out to a clipboard.
     pub has_clipboard: bool,
-    /// How the session works.
+    /// How the session works, and which name its store has.
     pub options: SceneOptions<'a>,
     /// FILE
     pub file: Vec<u8>,
@@ -128,10 +132,15 @@ pub fn look_of(word: &str) -> Result<Look<'_>, WordFault> {
         "line" => Ok(Look::Line),
         "shown" => Ok(Look::Shown),
         "text" => Ok(Look::Text),
-        _ => match word.strip_prefix("rows=") {
-            Some(rows) => rows_of(rows),
-            None => Err(WordFault::Bad("no step and nothing to look at")),
-        },
+        _ => {
+            if let Some(name) = word.strip_prefix("kept=") {
+                return Ok(Look::StoredAs(name));
+            }
+            match word.strip_prefix("rows=") {
+                Some(rows) => rows_of(rows),
+                None => Err(WordFault::Bad("no step and nothing to look at")),
+            }
+        }
     }
 }
 
@@ -150,6 +159,9 @@ fn act_of(word: &str) -> Result<Act<'_>, WordFault> {
     }
     if let Some(count) = word.strip_prefix("R") {
         return Ok(Act::Take(Step::Read(count_of(count)?)));
+    }
+    if let Some(digits) = word.strip_prefix("A") {
+        return Ok(Act::Written(digits));
     }
     Ok(Act::Look(look_of(word)?))
 }
@@ -189,6 +201,8 @@ pub struct SceneOptions<'a> {
     pub tab_width: u8,
     /// The digits of the file's name.
     pub name: Option<&'a str>,
+    /// The digits of a name that another program has taken.
+    pub taken: Option<&'a str>,
 }
 
 impl<'a> SceneOptions<'a> {
@@ -199,6 +213,7 @@ impl<'a> SceneOptions<'a> {
             auto_indent: false,
             tab_width: 0,
             name: None,
+            taken: None,
         };
         for word in steps.split(' ') {
             options.take(word);
@@ -216,6 +231,8 @@ impl<'a> SceneOptions<'a> {
                     self.tab_width = width.parse().unwrap_or(0);
                 } else if let Some(name) = word.strip_prefix("name=") {
                     self.name = Some(name);
+                } else if let Some(name) = word.strip_prefix("taken=") {
+                    self.taken = Some(name);
                 } else {
                     return word == CLIPBOARD;
                 }
@@ -240,7 +257,7 @@ impl<'a> SceneOptions<'a> {
 }
 
 /// A text by its digits; the empty one if they are none.
-fn text_of(alloc: Global, digits: &str) -> Result<String, AllocError> {
+pub fn text_of(alloc: Global, digits: &str) -> Result<String, AllocError> {
     let Ok(bytes) = bytes_of(alloc, digits) else {
         return Ok(String::new(alloc));
     };
@@ -284,11 +301,12 @@ fn mode_of(word: &str) -> Result<Mode, WordFault> {
 }
 
 impl Act<'_> {
-    /// Whether the act is possible in a MODE: a world replays nothing, `play` looks only at the text, and a session without a world
-    /// has no terminal.
+    /// Whether the act is possible in a MODE: a world replays nothing, `play` looks only at the text and leaves no time for another
+    /// program, and a session without a world has no terminal.
     fn is_of(&self, mode: Mode) -> bool {
         match mode {
-            Mode::Both | Mode::Step => !matches!(self, Act::Replay(_) | Act::EndReplay),
+            Mode::Both => !matches!(self, Act::Replay(_) | Act::EndReplay | Act::Written(_)),
+            Mode::Step => !matches!(self, Act::Replay(_) | Act::EndReplay),
             Mode::Play => matches!(self, Act::Take(_) | Act::Look(Look::Text)),
             Mode::Alone => !matches!(
                 self,
@@ -335,8 +353,13 @@ impl<'a> Scene<'a> {
     }
 
     /// A new store for the scene.
-    pub fn store(&self, alloc: Global) -> MemoryStore {
-        MemoryStore::new(alloc, self.failing)
+    pub fn store(&self, alloc: Global) -> Result<MemoryStore, AllocError> {
+        let mut store = MemoryStore::new(alloc, self.failing);
+        if let Some(digits) = self.options.taken {
+            let name = text_of(alloc, digits)?;
+            store.take_name(&name)?;
+        }
+        Ok(store)
     }
 
     /// A copy of the file, to be opened.

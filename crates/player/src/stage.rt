@@ -2,7 +2,7 @@
 
 use crate::answers::{Answers, add_flag, letter_of};
 use crate::looks::Seen;
-use crate::scene::{Act, Look, Scene};
+use crate::scene::{Act, Look, Scene, text_of};
 use crate::terminal::Terminal;
 use bx_grid::Cell;
 use bx_store::{MemoryStore, Store};
@@ -17,6 +17,16 @@ const SAVE: u8 = 0x13;
 /// The first `count` bytes, or all if there are fewer.
 fn first_bytes(bytes: &[u8], count: usize) -> &[u8] {
     &bytes[..count.min(bytes.len())]
+}
+
+/// Has another program write bytes, given as digits, over the text of a store.
+pub fn write_by_another(
+    store: &mut MemoryStore,
+    alloc: Global,
+    digits: &str,
+) -> Result<(), AllocError> {
+    let text = text_of(alloc, digits)?;
+    store.write_by_another(text.as_bytes())
 }
 
 /// A world in which a scene is played.
@@ -45,6 +55,7 @@ impl<D: BidiData + Drop> Stage<D> {
             match act {
                 Act::Take(step) => self.take(*step, answers)?,
                 Act::Look(look) => self.look(look, &scene.file, &mut answers.looks)?,
+                Act::Written(digits) => write_by_another(&mut self.store, self.alloc, digits)?,
                 // a world replays nothing
                 Act::Replay(_) | Act::EndReplay => {}
             }
