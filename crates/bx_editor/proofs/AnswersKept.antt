@@ -11,7 +11,7 @@ use Rattle.bx_editor.specs.declared.search_state.SearchState.{SearchState}
 use Rattle.bx_editor.specs.declared.search_state.SearchState.TheVariants as search_states
 use Rattle.bx_editor.specs.Answers.{IsAnswer, limit_of}
 use Rattle.bx_editor.specs.InputLines.{StandsInLine, prompt_line, takes_line}
-use Rattle.bx_editor.specs.Origin.{BeganAt, StandsAt}
+use Rattle.bx_editor.specs.Origin.{BeganAt, StandsAt, asks_replacement, is_queried}
 use Rattle.bx_editor.specs.Search.{as_typed}
 use Rattle.bx_editor.proofs.Begin.{begin-is-place}
 
@@ -99,3 +99,21 @@ stands-typed d purpose query text search_states.Typed at count stands = stands
 stands-typed d purpose query text search_states.WithBegun at count stands = stands
 stands-typed d purpose query text search_states.WithTyped at count stands = stands
 stands-typed d purpose query text search_states.Replacing at count stands = stands
+
+pub queried-origin : (d : Data) (text : List ℕ) (search_state : SearchState) (origin : ℕ) → is_queried search_state ≡ true
+    → BeganAt d text search_state origin → IsTextPlace d text origin
+queried-origin d text search_states.Off origin queried began = absurd (cc queried)
+queried-origin d text search_states.Begun origin queried began = began
+queried-origin d text search_states.Typed origin queried began = began
+queried-origin d text search_states.WithBegun origin queried began = began
+queried-origin d text search_states.WithTyped origin queried began = began
+queried-origin d text search_states.Replacing origin queried began = began
+
+pub asked-origin : (d : Data) (text : List ℕ) (search_state : SearchState) (origin : ℕ) → asks_replacement search_state ≡ true
+    → BeganAt d text search_state origin → IsTextPlace d text origin
+asked-origin d text search_states.Off origin asked began = absurd (cc asked)
+asked-origin d text search_states.Begun origin asked began = began
+asked-origin d text search_states.Typed origin asked began = began
+asked-origin d text search_states.WithBegun origin asked began = began
+asked-origin d text search_states.WithTyped origin asked began = began
+asked-origin d text search_states.Replacing origin asked began = began

@@ -1,5 +1,5 @@
 -- Whether the replacement is asked for.
-use Rattle.std.proofs.Common.{◌≡◌, ◌∙◌, ℕ, Bool, true, false, length, refl, ap, sym}
+use Rattle.std.proofs.Common.{◌≡◌, ◌∙◌, ℕ, Bool, true, false, List, [], ◌∷◌, length, refl, ap, sym}
 use Rattle.std.specs.Prelude.{◌==◌, not, None, Some, if◌then◌else◌}
 use Rattle.bx_ucd.specs.Data.{Data}
 use Rattle.bx_editor.specs.declared.search_state.SearchPurpose.TheVariants.{Replace}
@@ -12,6 +12,10 @@ use Rattle.bx_editor.specs.Search.{landed, landing_from, nothing_sought, sought}
 pub is-false : (b : Bool) → not b ≡ true → b ≡ false
 is-false true h = absurd (cc)
 is-false false h = refl
+
+pub not-empty : (ls : List ℕ) → (length ls == 0) ≡ false → ls ≡ [] → ⊥
+not-empty [] h none = absurd (cc)
+not-empty (c ∷ cs) h none = absurd (cc)
 
 module _ (d : Data) (e : Editor) where
   abbrev aimed : Editor

@@ -1,10 +1,10 @@
 -- The characters of a text before its first line end or tab.
-use Rattle.std.proofs.Common.{◌≡◌, ◌∙◌, ◌<◌, ◌≤◌, ◌-◌, ◌+◌, ◌++◌, ◌×◌, ℕ, suc, Bool, true, false, not, List, [], ◌∷◌, length, take, chars, encode_utf8, IsUtf8, IsCharBoundary, refl, sym, ap, ap₂, subst, arith}
+use Rattle.std.proofs.Common.{◌≡◌, ◌∙◌, ◌<◌, ◌≤◌, ◌-◌, ◌+◌, ◌++◌, ℕ, suc, Bool, true, false, not, List, [], ◌∷◌, length, take, chars, encode_utf8, IsUtf8, IsCharBoundary, refl, sym, ap, ap₂, subst, arith}
 use Rattle.std.proofs.Common.{append_assoc, append-nil, length-append}
-use Rattle.std.specs.Prelude.{◌==◌, ◌||◌}
+use Rattle.std.specs.Prelude.{◌==◌, ◌||◌, encode_utf8_all}
 use Rattle.std.specs.List.{before_first, list_all, position_or_len}
 use Rattle.std.proofs.lemmas.Bool.{and_from}
-use Rattle.std.proofs.lemmas.Str.{chars-nil, IsCharBoundary-at_seam, IsUtf8-append, IsUtf8-nil}
+use Rattle.std.proofs.lemmas.Str.{chars-nil, encodes-chars, IsCharBoundary-at_seam, IsUtf8-append, IsUtf8-nil, IsUtf8-take}
 use Rattle.std.proofs.Math.Seq.{take-append_seam}
 use Rattle.bx_ucd.specs.Data.{Data}
 use Rattle.bx_editor.specs.InputLines.{first_line, is_no_letter}
@@ -30,18 +30,27 @@ pub record IsRead (d : Data) (text front rest : List ℕ) : Type 0 where
   pub utf8 : IsUtf8 front
   pub line : first_line d text ≡ chars front ++ before_first (is_end d) (chars rest)
 
-pub Reads : Data → List ℕ → List ℕ → Type 0
+abbrev pub Reads : Data → List ℕ → List ℕ → Type 0
 Reads d text rest = (front : List ℕ) × IsRead d text front rest
 
 pub none-read : (d : Data) (text : List ℕ) → Reads d text text
-none-read d text = ([], record {
-  split = refl;
-  utf8 = IsUtf8-nil;
-  line = sym (ap (λ (cs : List ℕ). cs ++ before_first (is_end d) (chars text)) chars-nil);
-})
+none-read d text = (
+  [],
+  record {
+    split = refl;
+    utf8 = IsUtf8-nil;
+    line = sym (ap (λ (cs : List ℕ). cs ++ before_first (is_end d) (chars text)) chars-nil);
+  },
+)
 
 pub shorter : (d : Data) (text rest : List ℕ) → Reads d text rest → length rest ≤ length text
 shorter d text rest read = omega (arith, ap length read.1.split, length-append read.0 rest)
+
+pub first-utf8 : (rest behind : List ℕ) (c : ℕ) → IsUtf8 rest → IsUtf8 behind → rest ≡ encode_utf8 c ++ behind → IsUtf8 (encode_utf8 c)
+first-utf8 rest behind c utf8 others e =
+    let n = length (encode_utf8 c) in
+    subst IsUtf8 (ap (take n) e ∙ take-append_seam (encode_utf8 c) behind)
+    (IsUtf8-take rest n utf8 (IsCharBoundary-at_seam rest (encode_utf8 c) behind e others))
 
 pub more-read : (d : Data) (text rest behind : List ℕ) (c : ℕ) → Reads d text rest → rest ≡ encode_utf8 c ++ behind → chars rest ≡ c ∷ chars behind
     → IsUtf8 (encode_utf8 c) → is_end d c ≡ false → Reads d text behind
@@ -49,14 +58,16 @@ more-read d text rest behind c read bytes letters utf8 goes-on =
     let front = read.0 in
     let is = read.1 in
     let longer : chars (front ++ encode_utf8 c) ≡ chars front ++ c ∷ [] = one_more front c is.utf8 utf8 in
-    let after = before_first (is_end d) (chars behind) in
-    (front ++ encode_utf8 c, record {
-      split = is.split ∙ ap (λ (t : List ℕ). front ++ t) bytes ∙ sym (append_assoc front (encode_utf8 c) behind);
-      utf8 = IsUtf8-append front (encode_utf8 c) is.utf8 utf8;
-      line = is.line ∙ ap (λ cs. chars front ++ before_first (is_end d) cs) letters
-          ∙ ap (λ (cs : List ℕ). chars front ++ cs) (before-more (is_end d) c (chars behind) goes-on)
-          ∙ sym (append_assoc (chars front) (c ∷ []) after) ∙ ap (λ (cs : List ℕ). cs ++ after) (sym longer);
-    })
+    let after = before_first (is_end d) (chars behind) in (
+      front ++ encode_utf8 c,
+      record {
+        split = is.split ∙ ap (λ (t : List ℕ). front ++ t) bytes ∙ sym (append_assoc front (encode_utf8 c) behind);
+        utf8 = IsUtf8-append front (encode_utf8 c) is.utf8 utf8;
+        line = is.line ∙ ap (λ cs. chars front ++ before_first (is_end d) cs) letters
+            ∙ ap (λ (cs : List ℕ). chars front ++ cs) (before-more (is_end d) c (chars behind) goes-on)
+            ∙ sym (append_assoc (chars front) (c ∷ []) after) ∙ ap (λ (cs : List ℕ). cs ++ after) (sym longer);
+      },
+    )
 
 -- where the rest begins with an end, or is empty, the line was read
 read-is : (d : Data) (text rest : List ℕ) (n : ℕ) → Reads d text rest → before_first (is_end d) (chars rest) ≡ [] → n ≡ length text - length rest
@@ -83,10 +94,11 @@ at-seam d text rest n read utf8 len =
     let count : length front ≡ n = omega (arith, len, ap length read.1.split, length-append front rest) in
     subst (IsCharBoundary text) count (IsCharBoundary-at_seam text front rest read.1.split utf8)
 
+pub some-chars : (text : List ℕ) → IsUtf8 text → (length text ≡ 0 → ⊥) → chars text ≡ [] → ⊥
+some-chars text utf8 some none = some (sym (ap length (sym (ap encode_utf8_all none) ∙ encodes-chars text utf8)))
+
 -- ---- the line has no line end
 
-no-end : (d : Data) (c : ℕ) → is_end d c ≡ false → is_in_line c ≡ true
-no-end d c h = within (c == 0xA) (is_no_letter d c) h
 free : (b other : Bool) → (b || other) ≡ false → not b ≡ true
 free true other h = absurd (cc h)
 free false other h = refl

@@ -1,5 +1,6 @@
 -- Where the cursor stands in the input line that a prompt shows.
-use Rattle.std.proofs.Common.{◌≡◌, ◌≤◌, ℕ, true, List, length, Contains, IsUtf8, arith, subst, sym}
+use Rattle.std.proofs.Common.{◌≡◌, ◌≤◌, ℕ, true, List, [], length, IsUtf8, arith, subst, sym}
+use Rattle.std.specs.Prelude.{Contains}
 use Rattle.bx_common.specs.declared.base.Base.TheVariants.{Auto}
 use Rattle.bx_ucd.specs.Data.{Data}
 use Rattle.bx_view.specs.Places.{IsTextPlace}

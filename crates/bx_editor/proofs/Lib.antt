@@ -2,6 +2,14 @@ pub mod Computed
 pub mod Viewed
 pub mod StepOrder
 pub mod Parts
+pub mod MarkPlaces
+pub mod LeftLine
+pub mod FirstPress
+pub mod WheelSteps
+pub mod PlaceLine
+pub mod Spaces
+pub mod PutIn
+pub mod ErasedFrom
 pub mod Shown
 pub mod AnswersKept
 pub mod QuestionLeft
@@ -19,8 +27,6 @@ pub mod LinePutsKept
 pub mod LinePutsLeft
 pub mod FirstLine
 pub mod LineLength
-pub mod InLine
-pub mod EditsOrMoves
 pub mod Stores
 pub mod QuestionSteps
 pub mod Searches

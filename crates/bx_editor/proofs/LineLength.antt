@@ -1,10 +1,13 @@
 -- How many characters an edit leaves of a line.
-use Rattle.std.proofs.Common.{◌≡◌, ◌∙◌, ◌+◌, ◌-◌, ◌≤◌, ◌<◌, ◌++◌, ◌∷◌, ℕ, List, [], length, take, drop, chars, encode_utf8, IsUtf8, ap, sym, arith, append_assoc, length-append}
-use Rattle.std.proofs.lemmas.List.{drop-drop, take-append-drop}
-use Rattle.std.proofs.lemmas.Str.{chars-append, chars-nil, IsUtf8-append, IsUtf8-between, IsUtf8-drop, IsUtf8-nil, IsUtf8-take}
+use Rattle.std.proofs.Common.{◌≡◌, ◌∙◌, ◌+◌, ◌-◌, ◌≤◌, ◌<◌, ◌++◌, ◌∷◌, ℕ, List, [], length, take, drop, chars, encode_utf8, IsCharBoundary, IsUtf8, ap, subst, sym, arith, append_assoc, length-append}
+use Rattle.std.specs.Prelude.{encode_utf8_all}
+use Rattle.std.proofs.lemmas.List.{drop-drop, length-take-le, take-append-drop}
+use Rattle.std.proofs.lemmas.Str.{chars-append, chars-nil, encodes-chars, IsCharBoundary-at_seam, IsUtf8-append, IsUtf8-between, IsUtf8-drop, IsUtf8-nil, IsUtf8-take}
 use Rattle.bx_text.specs.Changes.{IsRange}
 use Rattle.bx_text.specs.Edits.{splice}
-use Rattle.bx_editor.proofs.questions_lemmas.OneMore.{one_more}
+use Rattle.bx_rows.proofs.GlyphTexts.{all-append}
+use Rattle.bx_editor.specs.questions.Answers.{shortened}
+use Rattle.bx_editor.proofs.questions_lemmas.OneMore.{one_more, past-all}
 
 -- the characters before, in place of, and behind a part
 in-parts : (text new : List ℕ) (start stop : ℕ) → IsUtf8 text → IsRange text start stop → IsUtf8 new
@@ -50,3 +53,28 @@ one-longer text at c utf8 range valid =
     let nothing = ap (λ n. length (chars (take n (drop at text)))) none ∙ ap length chars-nil in
     let one = ap length (one_more [] c IsUtf8-nil valid) ∙ length-append (chars []) (c ∷ []) in
     omega (arith, in-parts text (encode_utf8 c) at at utf8 range valid, whole text at at utf8 range, nothing, one, ap length chars-nil)
+
+-- ---- the last character before a place
+
+pub last-range : (text : List ℕ) (cursor n : ℕ) → IsUtf8 text → IsCharBoundary text cursor → n ≡ length (shortened (take cursor text))
+    → IsRange text n cursor
+last-range text cursor n utf8 bounds len =
+    let q = take cursor text in
+    let rest = drop cursor text in
+    let cs = chars q in
+    let k = length cs - 1 in
+    let front = encode_utf8_all (take k cs) in
+    let back = encode_utf8_all (drop k cs) in
+    let valid : IsUtf8 q = IsUtf8-take text cursor utf8 bounds in
+    let split : q ≡ front ++ back =
+    sym (encodes-chars q valid) ∙ ap encode_utf8_all (sym (take-append-drop k cs)) ∙ all-append (take k cs) (drop k cs) in
+    let behind : IsUtf8 (back ++ rest) =
+    IsUtf8-append back rest (past-all (take k cs) back q valid split) (IsUtf8-drop text cursor utf8 bounds) in
+    let whole : text ≡ front ++ (back ++ rest) =
+    sym (take-append-drop cursor text) ∙ ap (λ (t : List ℕ). t ++ rest) split ∙ append_assoc front back rest in
+    let start : IsCharBoundary text (length front) = IsCharBoundary-at_seam text front (back ++ rest) whole behind in
+    record {
+      start_bounds = subst (IsCharBoundary text) (sym len) start;
+      stop_bounds = bounds;
+      in_order = omega (arith, len, ap length split, length-append front back, length-take-le cursor text bounds.0);
+    }

@@ -48,7 +48,7 @@ either-in-line : (b : Bool) (c other : ℕ) → is_in_line c ≡ true → is_in_
 either-in-line true c other h k = h
 either-in-line false c other h k = k
 
-code-letter-kept : (c : ℕ) → is_in_line c ≡ true → is_in_line (code_letter c) ≡ true
+pub code-letter-kept : (c : ℕ) → is_in_line c ≡ true → is_in_line (code_letter c) ≡ true
 code-letter-kept c h =
     let other = letter_or is_code_letter c (key_letter c) in
     either-in-line (is_code_letter c) c (ascii_digit other (digit_of c)) h

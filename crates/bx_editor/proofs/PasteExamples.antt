@@ -17,6 +17,8 @@ use Rattle.bx_editor.specs.declared.search_state.SearchState.{SearchState}
 use Rattle.bx_editor.specs.declared.search_state.SearchState.TheVariants.{Begun}
 use Rattle.bx_editor.specs.declared.cursor.Soft.{Soft}
 use Rattle.bx_editor.specs.declared.cursor.Soft.TheVariants.{Off, Fresh, Old}
+use Rattle.bx_view.specs.declared.moves.Goal.{Goal}
+use Rattle.bx_view.specs.declared.moves.Goal.TheVariants.{End}
 use Rattle.bx_editor.specs.Region.{clip_of}
 use Rattle.bx_editor.specs.Editor.{Editor, with_clipboard}
 use Rattle.bx_editor.specs.Functions.{has_changes}
@@ -308,14 +310,14 @@ not_around_what_it_brings : (edited (codes "ab") (letters (codes "x") ++ Quit �
 unfolding unicode_segmentation unicode_width digits
 not_around_what_it_brings = refl
 
-abbrev in_column : List Key → Option ℕ
-in_column keys = (edited (codes "abcdef\nab\nabcdef") (RowEnd ∷ LineDown ∷ PasteStart ∷ keys)).goal
+abbrev goal_after : List Key → Option Goal
+goal_after keys = (edited (codes "abcdef\nab\nabcdef") (RowEnd ∷ LineDown ∷ PasteStart ∷ keys)).goal
 
-the_column_is_kept_at_its_start : in_column [] ≡ Some 7
+the_rows_end_is_kept_at_its_start : goal_after [] ≡ Some End
 unfolding unicode_segmentation unicode_width digits
-the_column_is_kept_at_its_start = refl
+the_rows_end_is_kept_at_its_start = refl
 
-and_let_go_with_what_it_brings : in_column (letters (codes "x")) ≡ None
+and_let_go_with_what_it_brings : goal_after (letters (codes "x")) ≡ None
 unfolding unicode_segmentation unicode_width digits
 and_let_go_with_what_it_brings = refl
 

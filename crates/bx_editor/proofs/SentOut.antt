@@ -124,10 +124,10 @@ module _ (d : Data) (fault : Option StoreFault) (e : Editor) where
     each-cut prompts.Off search_states.WithTyped = k e.prompt e.search_state
     each-cut prompts.Off search_states.Replacing = h e.prompt search_states.Off
     each-cut prompts.Line search_state = k e.prompt e.search_state
-    each-cut prompts.Name search_state = h prompts.Off e.search_state
+    each-cut prompts.Name search_state = h prompts.Off search_states.Off
     each-cut prompts.Code search_state = k e.prompt e.search_state
     each-cut prompts.File search_state = k e.prompt e.search_state
-    each-cut prompts.Overwrite search_state = k prompts.Off e.search_state
+    each-cut prompts.Overwrite search_state = k prompts.Off search_states.Off
 
   -- ---- with a clipboard
 

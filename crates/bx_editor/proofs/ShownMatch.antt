@@ -1,14 +1,16 @@
 -- What holds while a match is shown, and while the replacement is asked for.
-use Rattle.std.proofs.Common.{◌≡◌, ◌≢◌, ◌≤◌, ◌<◌, ◌+◌, ℕ, true, false, List, [], ◌∷◌, length, chars, drop}
+use Rattle.std.proofs.Common.{◌≡◌, ◌≢◌, ◌≤◌, ◌<◌, ◌+◌, ◌∙◌, ℕ, Bool, true, false, nat_le, List, [], ◌∷◌, length, chars, drop}
 use Rattle.std.proofs.Common.{ap, subst, arith, refl, IsUtf8}
-use Rattle.std.specs.Prelude.{Option, Some, None, IsNone, IsSome, MatchOption}
+use Rattle.std.specs.Prelude.{Option, Some, None, IsNone, IsSome, MatchOption, encode_utf8, find}
 use Rattle.std.proofs.lemmas.Bool.{and_parts}
 use Rattle.bx_common.specs.Characters.{largest_text}
 use Rattle.bx_ucd.specs.Data.{Data}
 use Rattle.bx_find.specs.Nearest.{MatchesAt, IsFirst}
 use Rattle.bx_find.specs.Letters.{letters_of, letters}
-use Rattle.bx_find.specs.Matches.{is_match, is_some, first_from, match_end, spans_from}
+use Rattle.bx_find.specs.Matches.{is_match, is_some, first_from, match_end, matches, spans_from}
+use Rattle.bx_find.specs.Parts.{first_between, if_below}
 use Rattle.bx_find.specs.declared.letters.Reading.{Reading}
+use Rattle.bx_find.proofs.Offsets.{matches-not}
 use Rattle.bx_find.proofs.Nearest.{first_is}
 use Rattle.bx_find.proofs.SpansOf.{span_found}
 use Rattle.bx_text.specs.Edits.{splice}
@@ -29,6 +31,22 @@ use Rattle.bx_editor.proofs.MatchSpans.{no-more-than-bytes}
 none-matches : (d : Data) (r : Reading) (cs : List ℕ) → is_match d r [] cs ≡ true → ⊥
 none-matches d r [] h = absurd (cc)
 none-matches d r (c ∷ cs) h = let both = and_parts (is_some (letters_of d r c)) false h in absurd (cc)
+
+module _ (d : Data) (r : Reading) where
+  none-by : (at c : ℕ) (cs : List ℕ) (b : Bool) → is_match d r [] (c ∷ cs) ≡ b → matches d r [] (at + length (encode_utf8 c)) cs ≡ []
+      → matches d r [] at (c ∷ cs) ≡ []
+  none-by at c cs true e more = absurd (none-matches d r (c ∷ cs) e)
+  none-by at c cs false e more = matches-not d r [] at c cs e ∙ more
+
+  none-at : (at : ℕ) (cs : List ℕ) → matches d r [] at cs ≡ []
+  none-at at [] = refl
+  none-at at (c ∷ cs) = none-by at c cs (is_match d r [] (c ∷ cs)) refl (none-at (at + length (encode_utf8 c)) cs)
+
+  -- without letters there is none
+  pub none-between : (sought text : List ℕ) (x stop : ℕ) → sought ≡ [] → first_between d r sought text x stop ≡ None
+  none-between sought text x stop none =
+      ap (λ (ls : List ℕ). first_between d r ls text x stop) none
+      ∙ ap (λ (ats : List ℕ). if_below stop (find (nat_le x) ats)) (none-at 0 (chars text))
 
 -- a match is one of some letters
 pub some-letters : (d : Data) (r : Reading) (sought text : List ℕ) (at : ℕ) → MatchesAt d r sought text at → sought ≢ []
@@ -146,6 +164,15 @@ module _ (d : Data) (purpose : SearchPurpose) (query text : List ℕ) where
   queried-moved WithBegun at count is = absurd (cc)
   queried-moved WithTyped at count is = absurd (cc)
   queried-moved Replacing at count is = absurd (cc)
+
+  -- nothing of it holds while the query is asked for
+  pub queried-stands : (search_state : SearchState) (at count : ℕ) → is_queried search_state ≡ true → StandsAt d purpose query text search_state at count
+  queried-stands Off at count is = tt
+  queried-stands Begun at count is = tt
+  queried-stands Typed at count is = tt
+  queried-stands WithBegun at count is = absurd (cc)
+  queried-stands WithTyped at count is = absurd (cc)
+  queried-stands Replacing at count is = absurd (cc)
 
   -- the first match is shown
   pub shown : (at count x : ℕ) → IsUtf8 text → length text ≤ largest_text → IsAsked d purpose query count

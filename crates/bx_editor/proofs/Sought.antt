@@ -1,7 +1,8 @@
 -- Where a search leads, and where it starts.
 use Rattle.std.proofs.Common.{◌≡◌, ℕ, ◌<◌, Bool, true, false, nat_lt, cond, List, [], ◌∷◌, length, Some, None, refl, ap, sym, ◌∙◌, arith}
 use Rattle.std.proofs.Common.{ltb-true, if◌then◌else◌}
-use Rattle.std.specs.Prelude.{◌==◌, find, not, unwrap_or}
+use Rattle.std.proofs.lemmas.Bool.{ne_eqb}
+use Rattle.std.specs.Prelude.{◌==◌, ◌↔◌, IsNone, Option, find, is_some, not, unwrap_or}
 use Rattle.bx_ucd.specs.Data.{Data}
 use Rattle.bx_find.specs.declared.letters.Reading.{Reading}
 use Rattle.bx_find.specs.Matches.{first_from, last_before}
@@ -116,3 +117,11 @@ find-previous-sought d e some =
 pub not-true : (b : Bool) → not b ≡ true → b ≡ false
 not-true true h = absurd (cc h)
 not-true false h = refl
+
+-- a query is there where there are letters
+pub some-query : {A : Type 0} (o : Option A) (letters : List ℕ) → (IsNone o ↔ (letters ≡ [])) → is_some o ≡ not (length letters == 0)
+some-query None [] h = refl
+some-query None (c ∷ cs) h = absurd (cc (h.0 refl))
+some-query (Some a) [] h = absurd (cc (h.1 refl))
+some-query (Some a) (c ∷ cs) h =
+    let some : length (c ∷ cs) ≡ 0 → ⊥ = λ e. omega (arith, e) in ap not (sym (ne_eqb (length (c ∷ cs)) 0 some))

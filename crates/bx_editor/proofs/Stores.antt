@@ -1,18 +1,22 @@
 -- Which keys store the text, and which may be refused.
-use Rattle.std.proofs.Common.{◌≡◌, ◌×◌, ◌⊎◌, ◌&&◌, ◌||◌, ℕ, Bool, true, false, Option, Some, None, length, not, if◌then◌else◌, refl, sym, ap, subst, inl, inr, ◌∙◌}
-use Rattle.std.specs.Prelude.{◌==◌, is_some}
+use Rattle.std.proofs.Common.{◌≡◌, ◌&&◌, ◌||◌, ℕ, Bool, true, false, List, Option, Some, None, length, not, if◌then◌else◌, refl, sym, ap, subst, inl, inr, ◌∙◌}
+use Rattle.std.specs.Prelude.{◌⊎◌, ◌==◌, is_some}
 use Rattle.std.proofs.lemmas.Bool.{and_parts}
 use Rattle.std.proofs.lemmas.Bool.Decides.{eqb_tells}
 use Rattle.bx_keys.specs.declared.key.Key.{Key}
+use Rattle.bx_store.specs.declared.store.StoreFault.{StoreFault}
+use Rattle.bx_ucd.specs.Data.{Data}
 use Rattle.bx_keys.specs.declared.notice.Notice as told
-use Rattle.bx_keys.specs.declared.key.Key.TheVariants.{Fill, Insert, Notice, PasteStart, Repaint, Save, Size}
+use Rattle.bx_keys.specs.declared.key.Key.TheVariants.{Fill, Insert, Notice, PasteEnd, PasteStart, Repaint, Save, Size}
 use Rattle.bx_editor.specs.declared.answer.Answer.{Answer}
 use Rattle.bx_editor.specs.declared.answer.Answer.TheVariants.{Letter}
 use Rattle.bx_editor.specs.declared.questions.answers.Prompt.{Prompt}
 use Rattle.bx_editor.specs.declared.questions.answers.Prompt.TheVariants.{Off, Line, Name, Code, File, Overwrite}
-use Rattle.bx_editor.specs.Answering.{answer_of}
+use Rattle.bx_editor.specs.Answering.{answer_of, without_line}
 use Rattle.bx_editor.specs.Editor.{Editor}
-use Rattle.bx_editor.specs.Keys.{ends_name, ends_paste, is_edit_or_move, is_save, is_typed, may_refuse, saving_by, saving_of}
+use Rattle.bx_editor.specs.Putting.{paste_ended}
+use Rattle.bx_editor.specs.Keys.{after_key, after_press, after_user, ends_name, ends_paste, is_edit_or_move, is_save, is_typed, may_refuse, saving_by, saving_of}
+use Rattle.bx_editor.proofs.EditsOrMoves.{edits-or-moves, edits-or-moves-alone, takes_memory}
 use Rattle.bx_editor.specs.Saving.{Saving, can_save, own_saving, saving_under}
 
 -- ---- a key that stores the text is not refused
@@ -63,6 +67,14 @@ stores-is e key h edits =
     stores-by e e.prompt key (answer_of key)
     (unless (is_some e.pasted && not (is_save key)) (saving_by e e.prompt key (answer_of key)) h) edits
 
+-- ---- a key that takes memory where something is asked, with and without an input line
+
+pub edits_answered : (key : Key) → takes_memory (answer_of key) ≡ true → is_edit_or_move key ≡ true
+edits_answered key takes = edits-or-moves key takes
+
+pub edits_alone : (key : Key) → takes_memory (without_line (answer_of key)) ≡ true → is_edit_or_move key ≡ true
+edits_alone key takes = edits-or-moves-alone key takes
+
 -- ---- while a paste is under way
 
 by-paste : (edits pasting ends : Bool) → pasting ≡ true → ends ≡ true → (edits || (pasting && ends)) ≡ true
@@ -81,3 +93,22 @@ refuses-pasting e PasteStart pasting repaint fill start size notice = absurd (st
 refuses-pasting e (Size height width) pasting repaint fill start size notice = absurd (size height width refl)
 refuses-pasting e (Notice one) pasting repaint fill start size notice = absurd (notice one refl)
 refuses-pasting e key pasting repaint fill start size notice = by-paste (is_edit_or_move key) (is_some e.pasted) (ends_paste key) pasting refl
+
+-- a key that ends the paste first
+in-paste : (d : Data) (fault : Option StoreFault) (pasted : Option (List ℕ)) (e : Editor) (key : Key) → is_some pasted ≡ true
+    → ((c : ℕ) → key ≡ Insert c → ⊥) → (key ≡ Repaint → ⊥) → after_press d fault pasted e key ≡ after_user d fault (paste_ended d e) key
+in-paste d fault None e key some insert repaint = absurd (cc some)
+in-paste d fault (Some list) e (Insert c) some insert repaint = absurd (insert c refl)
+in-paste d fault (Some list) e Repaint some insert repaint = absurd (repaint refl)
+in-paste d fault (Some list) e key some insert repaint = refl
+
+pub pasted-key : (d : Data) (fault : Option StoreFault) (e : Editor) (key : Key) → is_some e.pasted ≡ true → ((c : ℕ) → key ≡ Insert c → ⊥)
+    → (key ≡ Repaint → ⊥) → (key ≡ Fill → ⊥) → (key ≡ PasteStart → ⊥) → (key ≡ PasteEnd → ⊥)
+    → ((height width : ℕ) → key ≡ Size height width → ⊥) → ((notice : told.Notice) → key ≡ Notice notice → ⊥)
+    → after_key d fault e key ≡ after_user d fault (paste_ended d e) key
+pasted-key d fault e (Size height width) some insert repaint fill start end size notice = absurd (size height width refl)
+pasted-key d fault e (Notice one) some insert repaint fill start end size notice = absurd (notice one refl)
+pasted-key d fault e Fill some insert repaint fill start end size notice = absurd (fill refl)
+pasted-key d fault e PasteStart some insert repaint fill start end size notice = absurd (start refl)
+pasted-key d fault e PasteEnd some insert repaint fill start end size notice = absurd (end refl)
+pasted-key d fault e key some insert repaint fill start end size notice = in-paste d fault e.pasted e key some insert repaint

@@ -259,7 +259,7 @@ after_user d fault e key = as_left key (
     if refuses_replacing e key
     then by d fault (before e) (cleared e) Refuses
     else after_any d fault (before e) e.prompt e.search_state (cleared e) key
-)
+    )
 
 -- ---- while a paste is under way: a character goes into it, and Repaint leaves it; any other key first ends it
 

@@ -271,7 +271,11 @@ impl<D: BidiData + Drop> Editor<D> {
     }
 
     /// Takes a character that is typed as part of the answer to a question with an input line.
-    pub(crate) fn type_answer(&mut self, c: char, fault: Option<StoreFault>) -> Result<(), OutOfMemory>
+    pub(crate) fn type_answer(
+        &mut self,
+        c: char,
+        fault: Option<StoreFault>,
+    ) -> Result<(), OutOfMemory>
         ensures ok { OnOk result (self.new ≡ record self.old {
           editor = after_answer_letter (D.data self.old.tables) fault self.old.editor.prompt (cleared self.old.editor) c;
         }) }
@@ -290,7 +294,11 @@ impl<D: BidiData + Drop> Editor<D> {
     }
 
     /// Takes a character that is typed or pasted as part of the answer to a question with an input line.
-    pub(crate) fn answer_question(&mut self, c: char, fault: Option<StoreFault>) -> Result<(), OutOfMemory>
+    pub(crate) fn answer_question(
+        &mut self,
+        c: char,
+        fault: Option<StoreFault>,
+    ) -> Result<(), OutOfMemory>
         ensures ok { OnOk result (self.new ≡ record self.old {
           editor = after_taking (D.data self.old.tables) self.old.editor.typing c (cleared self.old.editor)
               (after_answer_letter (D.data self.old.tables) fault self.old.editor.prompt (cleared self.old.editor) c);
@@ -317,7 +325,11 @@ impl<D: BidiData + Drop> Editor<D> {
         }) }
         ensures err { OnErr result (self.new ≡ self.old) }
     {
-        if let (Prompt::Code, Erasure::LastCharacter, true) = (self.prompt, how, self.answer.is_empty()) {
+        if let (Prompt::Code, Erasure::LastCharacter, true) = (
+            self.prompt,
+            how,
+            self.answer.is_empty(),
+        ) {
             self.prompt = Prompt::Name;
             self.reset_after_key();
             return Ok(());
@@ -346,8 +358,9 @@ impl<D: BidiData + Drop> Editor<D> {
         let cursor = self
             .document
             .moved_in_line(self.answer.as_str(), m, self.input_cursor)?;
+        let search_state = as_typed(self.cursor.search_state);
         self.input_cursor = cursor;
-        self.cursor.search_state = as_typed(self.cursor.search_state);
+        self.cursor.search_state = search_state;
         self.reset_after_key();
         Ok(())
     }

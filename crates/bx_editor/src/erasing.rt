@@ -1,5 +1,6 @@
 //! The keys that remove a unit, a word or a point, or the selection.
-ghost use Rattle.std.specs.Prelude.{◌≡◌, true, false, IfOk, OnErr, OnOk};
+ghost use Rattle.std.specs.Prelude.{◌≡◌, ◌==◌, true, false, IfOk, OnErr, OnOk};
+ghost use Rattle.std.specs.List.{list_all};
 ghost use Rattle.bx_text.specs.Changes.{IsRange};
 ghost use Rattle.bx_view.specs.Moves.{step_logical};
 ghost use Rattle.bx_view.specs.Moved.{moved};
@@ -15,6 +16,13 @@ use crate::undo_groups::Removal;
 use bx_common::{OutOfMemory, Range};
 use bx_ucd::BidiData;
 use bx_view::{Logical, Move};
+
+/// Whether a text has nothing but spaces.
+fn are_spaces(text: &str) -> bool
+    ensures { result ≡ list_all (λ b. b == 0x20) text.now }
+{
+    text.bytes().all(|byte| byte == b' ')
+}
 
 impl<D: BidiData + Drop> Editor<D> {
     /// Removes the bytes from `start` to `stop`, as an edit that goes on with the undo group before or begins one.
@@ -128,13 +136,14 @@ impl<D: BidiData + Drop> Editor<D> {
     /// Whether there is a tab's width, and only spaces stand before the place in its line, one at least.
     fn is_behind_spaces(&self, start: usize) -> Result<bool, OutOfMemory>
         requires start { start ≡ (line (D.data self.now.tables) self.now.editor).0 }
+        requires range { IsRange self.now.editor.content.text start self.now.editor.place }
         ensures { IfOk result (λ is. is ≡ is_behind_spaces (D.data self.now.tables) self.now.editor) }
     {
         if self.tab_width == 0 || start >= self.cursor.place {
             return Ok(false);
         }
         let before = self.document.copy(start, self.cursor.place)?;
-        Ok(before.as_str().bytes().all(|byte| byte == b' '))
+        Ok(are_spaces(before.as_str()))
     }
 
     /// Where what ErasePoint removes begins: at the multiple of the tab's width before the place where only spaces stand before it in its
@@ -145,7 +154,7 @@ impl<D: BidiData + Drop> Editor<D> {
         ensures range { IfOk result (λ o. IsRange self.old.editor.content.text o self.old.editor.place) }
     {
         let place = self.cursor.place;
-        let start = self.document.line_of(place).start;
+        let start = self.line_start();
         if self.is_behind_spaces(start)? {
             let width = usize::from(self.tab_width);
             return Ok(place - ((place - start - 1) % width + 1));

@@ -1,5 +1,5 @@
 //! Edits of an input line: what is typed at a prompt, a small text of one line with a cursor of its own.
-ghost use Rattle.std.specs.Prelude.{◌≡◌, ◌≤◌, ◌==◌, not, [], true, IfOk, IsCharBoundary, OnOk, chars, length, string_bytes, encode_utf8, take};
+ghost use Rattle.std.specs.Prelude.{◌≡◌, ◌≤◌, ◌==◌, not, [], true, IfOk, IsCharBoundary, IsUtf8, OnOk, chars, length, string_bytes, encode_utf8, take};
 ghost use Rattle.bx_text.specs.Changes.{IsRange};
 ghost use Rattle.bx_view.specs.Places.{IsTextPlace};
 ghost use Rattle.bx_editor.specs.InputLines.{erased_part, erases_nothing, first_line, line_edited, line_lengthened, line_shortened};
@@ -101,6 +101,7 @@ impl InputLine {
         ensures start { IfOk result (λ r. r.start ≡ (erased_part (D.data document.now.tables) how self.now).0) }
         ensures stop { IfOk result (λ r. r.stop ≡ (erased_part (D.data document.now.tables) how self.now).1) }
         ensures range { IfOk result (λ r. IsRange self.now.text r.start r.stop) }
+        ensures utf8 { OnOk result (IsUtf8 self.now.text) }
     {
         let line = self.text.as_str();
         let cursor = self.cursor;

@@ -10,8 +10,8 @@ ghost use Rattle.bx_editor.specs.Keys.{after_any, after_key, after_pressing, aft
 ghost use Rattle.bx_editor.specs.Keys.{changes_text, is_edit_or_move, may_refuse, refuses_replacing, saving_of};
 ghost use Rattle.bx_editor.specs.Functions.{has_size, move_of};
 
-use crate::clicks::{clicks_behind, pressed_behind};
 use crate::answer::{Answer, answer_of};
+use crate::clicks::{clicks_behind, pressed_behind};
 use crate::editor::Editor;
 use crate::message::Message;
 use crate::moving::goal_behind;
@@ -103,12 +103,12 @@ impl<D: BidiData + Drop> Editor<D> {
     {
         let again = self.quit_before;
         self.reset_after_key();
-        if !self.past.changed || again {
-            self.ended = true;
-        } else {
-            self.message = Some(Message::Unsaved);
-        }
         self.quit_before = true;
+        if self.past.changed && !again {
+            self.message = Some(Message::Unsaved);
+            return;
+        }
+        self.ended = true;
     }
 
     /// Shows the first list of keys, or the second one if the first is the message.
@@ -290,6 +290,7 @@ impl<D: BidiData + Drop> Editor<D> {
     }
 
     /// Applies a key in a question with an input line.
+    #[tactic(auto, using(crate::proofs::Stores::edits_answered))]
     fn press_in_question(&mut self, key: Key, fault: Option<StoreFault>) -> Result<(), OutOfMemory>
         requires line { takes_line self.old.editor.prompt ≡ true }
         ensures ok { OnOk result (self.new.editor
@@ -317,6 +318,7 @@ impl<D: BidiData + Drop> Editor<D> {
     }
 
     /// Applies a key in the question for a character's name.
+    #[tactic(auto, using(crate::proofs::Stores::edits_alone))]
     fn press_for_name(&mut self, key: Key, fault: Option<StoreFault>) -> Result<(), OutOfMemory>
         requires prompt { self.old.editor.prompt ≡ Prompt.Name }
         ensures ok { OnOk result (self.new.editor

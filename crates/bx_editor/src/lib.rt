@@ -40,14 +40,14 @@ mod undo_groups;
 mod undoing;
 mod wrapping;
 
+pub use answer::{Answer, answer_of};
 pub use clicks::{Clicks, Extent, Pressed};
 pub use cursor::Soft;
 pub use editor::Editor;
+pub use input_line::{Erasure, InputLine};
 pub use laws::{copies_go_out, paste_is_one_edit, paste_is_unseen};
 pub use message::Message;
 pub use opening::OpenError;
-pub use answer::{Answer, answer_of};
-pub use input_line::{Erasure, InputLine};
 pub use questions::{
     Prompt, Target, asked, asks_code, closing, code_letter, coded, is_code_letter, is_line_letter,
     name_letter, named, told_is_printable, write_told,

@@ -20,7 +20,9 @@ impl<D: BidiData + Drop> Editor<D> {
     {
         match (self.prompt, self.cursor.search_state) {
             (Prompt::Off, SearchState::Begun | SearchState::Typed) => self.type_letter(c),
-            (Prompt::Off, SearchState::WithBegun | SearchState::WithTyped) => self.type_replacement(c),
+            (Prompt::Off, SearchState::WithBegun | SearchState::WithTyped) => self.type_replacement(
+                c,
+            ),
             (Prompt::Line | Prompt::Code | Prompt::File, _) => self.type_answer(c, None),
             _ => {
                 self.reset_after_key();

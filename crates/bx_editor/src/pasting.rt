@@ -128,13 +128,14 @@ impl<D: BidiData + Drop> Editor<D> {
     pub(crate) fn start_paste(&mut self)
         ensures { self.new ≡ record self.old { editor = after_paste_start self.old.editor } }
     {
-        self.forget_presses();
         if self.refuses_paste() {
             self.message = Some(Message::ViewOnly);
+            self.forget_presses();
             return;
         }
         self.begin_if_free();
         self.typing = Typing::Paste;
+        self.forget_presses();
     }
 
     /// Whether a character is pasted as CR LF. Allocates nothing.

@@ -54,10 +54,21 @@ impl<D: BidiData + Drop> Editor<D> {
         ensures start_place { IfOk result (λ part. IsTextPlace (D.data self.old.tables) self.old.editor.content.text part.start) }
         ensures stop_place { IfOk result (λ part. IsTextPlace (D.data self.old.tables) self.old.editor.content.text part.stop) }
     {
+        // The proof compares the parts, so they have names, and `len` promises that the text is UTF-8.
+        let _utf8 = self.document.len();
         match extent {
-            Extent::Unit => self.document.unit_at(place),
-            Extent::Word => self.document.stretch_at(place),
-            Extent::Paragraph => Ok(self.document.line_of(place)),
+            Extent::Unit => {
+                let unit = self.document.unit_at(place)?;
+                Ok(unit)
+            }
+            Extent::Word => {
+                let word = self.document.stretch_at(place)?;
+                Ok(word)
+            }
+            Extent::Paragraph => {
+                let line = self.document.line_of(place);
+                Ok(line)
+            }
         }
     }
 

@@ -1,9 +1,10 @@
 //! The keys that type and put in.
-ghost use Rattle.std.specs.Prelude.{◌≡◌, ◌<◌, ◌∷◌, [], if◌then◌else◌, IfOk, OnErr, OnOk, encode_utf8, string_bytes};
+ghost use Rattle.std.specs.Prelude.{◌≡◌, ◌<◌, ◌||◌, ◌∷◌, [], if◌then◌else◌, IfOk, OnErr, OnOk, encode_utf8, string_bytes};
 ghost use Rattle.bx_text.specs.Edits.{fits};
+ghost use Rattle.bx_document.specs.Line.{ends_with_separator, is_line_empty};
 ghost use Rattle.bx_editor.specs.Editor.{cleared, with_insertion};
 ghost use Rattle.bx_editor.specs.Putting.{after_character, after_new_line, after_put, after_tab, as_line, has_room, is_paste, new_indent, new_line_end, only_paste};
-ghost use Rattle.bx_editor.specs.Putting.{put_in, put_line, typed, with_selection_replaced, yielding};
+ghost use Rattle.bx_editor.specs.Putting.{put_in, put_line, puts_line, typed, with_selection_replaced, yielding};
 ghost use Rattle.bx_editor.specs.undo_groups.Groups.{kind_of};
 ghost use Rattle.bx_view.specs.Places.{IsTextPlace};
 ghost use Rattle.bx_editor.specs.Region.{region};
@@ -210,14 +211,27 @@ impl<D: BidiData + Drop> Editor<D> {
         self.type_text(new, kind)
     }
 
+    /// Whether a whole line is held, and nothing is selected.
+    fn puts_line(&self) -> bool
+        ensures { result ≡ puts_line self.now.editor }
+    {
+        self.whole_line && !self.is_selection()
+    }
+
+    /// Whether a text that is put over the place's line needs no line end: it has one, or the line is empty.
+    fn is_line(&self, text: &str) -> bool
+        ensures { result ≡ (ends_with_separator (D.data self.now.tables) text.now
+            || is_line_empty (D.data self.now.tables) self.now.editor.content.text self.now.editor.place) }
+    {
+        self.document.ends_with_separator(text) || self.document.is_line_empty(self.cursor.place)
+    }
+
     /// The held text as a line that is put over the place's: with a line end, but over an empty line as it is.
     fn held_line(&self) -> Result<String, OutOfMemory>
         ensures { IfOk result (λ s. string_bytes s ≡ as_line (D.data self.now.tables) self.now.editor self.now.editor.held) }
     {
         let mut new = self.held.clone()?;
-        if self.document.ends_with_separator(new.as_str())
-            || self.document.is_line_empty(self.cursor.place)
-        {
+        if self.is_line(new.as_str()) {
             return Ok(new);
         }
         new.push_str(line_end(self.document.has_crlf_first()))?;
@@ -233,10 +247,10 @@ impl<D: BidiData + Drop> Editor<D> {
         ensures err { OnErr result (self.new ≡ self.old) }
     {
         let new = self.held_line()?;
-        let place = self.cursor.place;
-        let start = self.document.line_of(place).start;
+        let start = self.line_start();
         self.past.undo_groups.reserve()?;
         let n = self.document.past_len();
+        let place = self.cursor.place;
         let Some(place) = self.document.insert_before(start, new.as_str(), place)? else {
             self.tell(Message::TextFull);
             return Ok(());
@@ -258,7 +272,7 @@ impl<D: BidiData + Drop> Editor<D> {
             self.tell(Message::NothingToPut);
             return Ok(());
         }
-        if self.whole_line && !self.is_selection() {
+        if self.puts_line() {
             return self.put_line();
         }
         let empty = String::new(*self.held.allocator());

@@ -10,8 +10,8 @@ mod line;
 mod names;
 mod told;
 
-pub(crate) use answers::{char_count, shortened};
 pub use answers::Prompt;
+pub(crate) use answers::{char_count, shortened};
 pub use codes::{coded, is_code_letter};
 pub use key_letters::{code_letter, name_letter};
 pub use laws::told_is_printable;

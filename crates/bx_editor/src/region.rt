@@ -1,8 +1,9 @@
 //! The mark, and the keys that copy and cut.
 ghost use Rattle.std.specs.Prelude.{◌≡◌, OnErr, OnOk, slice_range};
 ghost use Rattle.bx_text.specs.Changes.{IsRange};
+ghost use Rattle.bx_view.specs.Places.{IsTextPlace};
 ghost use Rattle.bx_editor.specs.Editor.{cleared};
-ghost use Rattle.bx_editor.specs.Region.{after_copy, after_cut, after_mark, held_message, is_at_mark, region, taken, with_held, without_hard_mark, without_mark};
+ghost use Rattle.bx_editor.specs.Region.{after_copy, after_cut, after_mark, held_message, is_at_mark, line, region, taken, with_held, without_hard_mark, without_mark};
 
 use crate::cursor::Soft;
 use crate::editor::Editor;
@@ -63,6 +64,7 @@ impl<D: BidiData + Drop> Editor<D> {
         ensures start { result.start ≡ (region self.now.editor).0 }
         ensures stop { result.stop ≡ (region self.now.editor).1 }
         ensures range { IsRange self.now.editor.content.text result.start result.stop }
+        ensures start_place { IsTextPlace (D.data self.now.tables) self.now.editor.content.text result.start }
     {
         // `len` promises that the text is UTF-8.
         let _utf8 = self.document.len();
@@ -71,6 +73,16 @@ impl<D: BidiData + Drop> Editor<D> {
             start: mark.min(self.cursor.place),
             stop: mark.max(self.cursor.place),
         }
+    }
+
+    /// Where the cursor's line begins. Allocates nothing.
+    pub(crate) fn line_start(&self) -> usize
+        ensures start { result ≡ (line (D.data self.now.tables) self.now.editor).0 }
+        ensures range { IsRange self.now.editor.content.text result self.now.editor.place }
+    {
+        // `len` promises that the text is UTF-8.
+        let _utf8 = self.document.len();
+        self.document.line_of(self.cursor.place).start
     }
 
     /// The part of the text that Cut takes: the region, or the line if the region is empty.

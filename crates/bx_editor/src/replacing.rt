@@ -53,9 +53,10 @@ impl<D: BidiData + Drop> Editor<D> {
     {
         let stop = self.on_by(Move::Logical(Logical::Forward))?;
         let reading = reading_of(self.purpose);
-        Ok(self
-            .document
-            .first_between(reading, query, self.cursor.place, stop))
+        Ok(
+            self.document
+                .first_between(reading, query, self.cursor.place, stop),
+        )
     }
 
     /// The units of the match that the query led to; without one the region.

@@ -133,7 +133,9 @@ impl<D: BidiData + Drop> Editor<D> {
         match (self.prompt, answer_of(key)) {
             (Prompt::File, Answer::Letter(c)) if self.ends_name(c) => Some(self.saving_under()),
             (Prompt::File, Answer::Letter(_)) => None,
-            (Prompt::Overwrite, Answer::Letter(c)) if self.overwrites(c) => Some(self.saving_over()),
+            (Prompt::Overwrite, Answer::Letter(c)) if self.overwrites(c) => Some(
+                self.saving_over(),
+            ),
             (Prompt::Overwrite, _) => None,
             _ if is_save(key) && self.can_save() => Some(self.own_saving()),
             _ => None,

@@ -206,9 +206,7 @@ impl<D: BidiData + Drop> Editor<D> {
         ensures err { OnErr result (self.new ≡ self.old) }
     {
         let count = text_height(self.height);
-        let top = self
-            .document
-            .top_away(self.top, way, WHEEL_ROWS, count)?;
+        let top = self.document.top_away(self.top, way, WHEEL_ROWS, count)?;
         if !self.document.is_shown(top, self.cursor.place, count)? {
             return self.carry(top);
         }

@@ -2,6 +2,7 @@
 ghost use Rattle.std.specs.Prelude.{◌≡◌, true, OnErr, OnOk};
 ghost use Rattle.bx_view.specs.Places.{IsTextPlace};
 ghost use Rattle.bx_editor.specs.declared.questions.answers.Prompt.{Prompt};
+ghost use Rattle.bx_editor.specs.declared.search_state.SearchState.{SearchState};
 ghost use Rattle.bx_editor.specs.Answering.{answer_of, without_line};
 ghost use Rattle.bx_editor.specs.Before.{before};
 ghost use Rattle.bx_editor.specs.Editor.{cleared, with_typing};

@@ -80,7 +80,11 @@ impl<D: BidiData + Drop> Editor<D> {
         ensures start { result ≡ (if grows then self.now.editor.place else self.now.editor.origin) }
         ensures text_place { IsTextPlace (D.data self.now.tables) self.now.editor.content.text result }
     {
-        if grows { self.cursor.place } else { self.origin }
+        if grows {
+            self.cursor.place
+        } else {
+            self.origin
+        }
     }
 
     /// Makes a line the query, and seeks it: from the place on, or, if it did not grow at its end, from where the search began.
@@ -123,7 +127,11 @@ impl<D: BidiData + Drop> Editor<D> {
             self.reset_after_key();
             return Ok(());
         }
-        let (query, cursor) = kept(self.cursor.search_state, self.query.as_str(), self.input_cursor);
+        let (query, cursor) = kept(
+            self.cursor.search_state,
+            self.query.as_str(),
+            self.input_cursor,
+        );
         let grows = cursor == query.len();
         let mut line = InputLine::of(*self.query.allocator(), query, cursor)?;
         line.insert(&self.document, c, LONGEST_QUERY)?;

@@ -1,6 +1,7 @@
 //! The status row.
-ghost use Rattle.std.specs.Prelude.{◌≡◌, ◌++◌, ◌≤◌, true, IfOk, IfSome, length, option_map, string_bytes};
+ghost use Rattle.std.specs.Prelude.{◌≡◌, ◌++◌, ◌≤◌, true, Bool, IfOk, IfSome, List, length, option_map, string_bytes};
 ghost use Rattle.bx_common.specs.Characters.{are_ascii_printable};
+ghost use Rattle.bx_rows.specs.RowPicture.{Glyph};
 ghost use Rattle.bx_editor.specs.InputLines.{input_line_of, search_line};
 ghost use Rattle.bx_editor.specs.Status.{glyph_row, left_side, name_glyphs, prompt_text, prompt_words, query_prompt, row_glyphs, search_prompt};
 ghost use Rattle.bx_editor.specs.Status.{status_line, typed_column, with_some_end};
@@ -82,9 +83,7 @@ fn prompt_text(prompt: Prompt) -> &'static str
     match prompt {
         Prompt::Off => "",
         Prompt::Line => " line: ",
-        Prompt::Name => {
-            " insert: i I f isolate P end l r a mark n j joiner e E o O p u code"
-        }
+        Prompt::Name => { " insert: i I f isolate P end l r a mark n j joiner e E o O p u code" }
         Prompt::Code => " insert: U+",
         Prompt::File => " save as: ",
         Prompt::Overwrite => " overwrite it? y or n",
@@ -93,7 +92,7 @@ fn prompt_text(prompt: Prompt) -> &'static str
 
 /// What stands at the row's end, in a session with a name: the name's glyphs, and a direction.
 fn row_end(drawn: &Option<DrawnName>, is_rtl: bool) -> Option<RowEnd<'_>>
-    ensures { option_map (λ e. (e.name.now, e.is_rtl)) result ≡ option_map (λ glyphs. (glyphs, is_rtl)) drawn.now }
+    ensures { option_map {U = List Glyph × Bool} (λ e. (e.name.now, e.is_rtl)) result ≡ option_map (λ glyphs. (glyphs, is_rtl)) drawn.now }
 {
     match drawn {
         None => None,
@@ -135,6 +134,17 @@ impl<D: BidiData + Drop> Editor<D> {
         }
     }
 
+    /// Lays out the glyphs of the name; none in a session without a name.
+    fn draw_name(&self) -> Result<Option<DrawnName>, OutOfMemory>
+        ensures { IfOk result (λ drawn. drawn ≡ option_map (name_glyphs (D.data self.now.tables)) self.now.editor.name) }
+    {
+        let Some(name) = &self.name else {
+            return Ok(None);
+        };
+        let drawn = self.document.draw_name(name.as_str())?;
+        Ok(Some(drawn))
+    }
+
     /// Takes the glyphs of the name out, laid out if they are not yet; none in a session without a name.
     fn take_drawn(&mut self) -> Result<Option<DrawnName>, OutOfMemory>
         ensures same { self.new ≡ self.old }
@@ -143,10 +153,7 @@ impl<D: BidiData + Drop> Editor<D> {
         if let Some(drawn) = self.drawn_name.take() {
             return Ok(Some(drawn));
         }
-        match &self.name {
-            None => Ok(None),
-            Some(name) => Ok(Some(self.document.draw_name(name.as_str())?)),
-        }
+        self.draw_name()
     }
 
     /// Draws a text, then the prompt of a question or a search, with what is typed there, and what stands at the row's end.
@@ -178,7 +185,11 @@ impl<D: BidiData + Drop> Editor<D> {
 
     /// Draws the status row: a text, then the prompt of a question or a search, with what is typed there, and at its end the name.
     /// `is_rtl`: the paragraph is read from right to left.
-    pub(crate) fn draw_status(&mut self, text: String, is_rtl: bool) -> Result<StatusRow, OutOfMemory>
+    pub(crate) fn draw_status(
+        &mut self,
+        text: String,
+        is_rtl: bool,
+    ) -> Result<StatusRow, OutOfMemory>
         requires printable { are_ascii_printable (string_bytes text) ≡ true }
         requires some { 1 ≤ length (string_bytes text) }
         ensures same { self.new ≡ self.old }

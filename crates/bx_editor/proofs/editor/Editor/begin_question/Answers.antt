@@ -11,7 +11,7 @@ invariant_of-self g c =
       kept.4,
       kept.5,
       empty-answer c.args.prompt _ c.new.ensures.bytes,
-      stands-at-start _ c.args.prompt _ _ _ _,
+      stands-at-start (g.D.BidiData.data c.self.inside.document.tables) c.args.prompt _ _ _ _,
       kept.8,
       kept.9,
       kept.10,

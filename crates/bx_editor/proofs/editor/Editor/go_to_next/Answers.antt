@@ -2,11 +2,9 @@ use Rattle.std.proofs.Common.{◌≡◌, ◌∙◌, ap, chars, false, length, su
 use Rattle.std.specs.Prelude.{◌==◌}
 use Rattle.bx_find.specs.Letters.{letters}
 use Rattle.bx_find.specs.declared.letters.Reading.TheVariants.{Wide}
-use Rattle.bx_editor.specs.declared.search_state.SearchPurpose.TheVariants.{Find}
-use Rattle.bx_editor.specs.declared.search_state.SearchState.TheVariants.{Off}
 use Rattle.bx_editor.specs.Editor.{Editor, cleared, rows}
 use Rattle.bx_editor.specs.Functions.{EditorState}
-use Rattle.bx_editor.specs.Search.{forward, landed, next_or_start, sought}
+use Rattle.bx_editor.specs.Search.{forward, landed, next_or_start, sought, sought_alone}
 use Rattle.bx_editor.specs.Region.{unselected}
 use Rattle.bx_editor.proofs.Sought.{find-next-sought, not-true}
 use Rattle.bx_editor.proofs.editor.Editor.go_to_next.Goals as goal
@@ -19,23 +17,18 @@ returns-clause-ok g c =
     let next = c.in_ok-next.ensures.next
     ∙ ap (λ (s : EditorState g.row.D.Denot). next_or_start (g.D.BidiData.data s.tables) s.editor) (sym view) in
     let some : (length (sought d now.editor) == 0) ≡ false = not-true _ (sym c.has_query.ensures ∙ c.if-not-has_query.false) in
-    let settled = subst (λ (s : EditorState g.row.D.Denot). (let ucd = g.D.BidiData.data s.tables in
+    subst (λ (s : EditorState g.row.D.Denot). (let ucd = g.D.BidiData.data s.tables in
     let x = s.editor in
-    c.settle_at.new.self ≡ record {
+    c.settle_alone.new.self ≡ record {
       tables = s.tables;
-      editor = landed (cleared x)
-          (forward ucd Wide (rows ucd x) x.content.text (next_or_start ucd x) (letters ucd Wide (chars x.query)));
+      editor = landed (sought_alone (unselected (cleared x)))
+          (forward ucd Wide (rows ucd x) x.content.text (next_or_start ucd x) x.query (letters ucd Wide (chars x.query)));
     })) view
     (simp (
       c.in_ok-landing.ensures.same,
       c.in_ok-landing.ensures.landing,
       next,
       c.as_str-query.ensures.value,
-    ) at c.settle_at.ensures) in
-    let left : EditorState g.row.D.Denot → EditorState g.row.D.Denot = λ s. record s {
-      editor = unselected
-          (record s.editor { search_state = Off; purpose = Find });
-    } in
-    c.unselect.ensures ∙ ap left (c.self-2.view_is ∙ settled)
+    ) at c.settle_alone.ensures)
     ∙ ap (λ (x : Editor). (let s : EditorState g.row.D.Denot = record now { editor = x } in s))
     (sym (find-next-sought d (unselected (cleared now.editor)) some))

@@ -17,7 +17,7 @@ invariant_of-self g c =
     let answer = string_bytes i.answer in
     let search_state = i.cursor.search_state in
     let cursor = c.in_ok-cursor.cursor in
-    let state = c.as_typed.ensures in
+    let state = c.as_typed-search_state.ensures in
     let line = c.as_str.ensures.value in
     let asked : takes_line i.prompt ≡ true = ap (λ (s : EditorState g.row.D.Denot). takes_line s.editor.prompt) c.self.view_is ∙ c.requires.line in
     let before = place-in-answer d i.prompt search_state query other answer i.input_cursor asked kept.7 in
@@ -29,7 +29,7 @@ invariant_of-self g c =
       kept.4,
       kept.5,
       kept.6,
-      stands-in-answer d i.prompt c.as_typed.result query other answer cursor asked place,
+      stands-in-answer d i.prompt c.as_typed-search_state.result query other answer cursor asked place,
       kept.8,
       subst (λ s. BeganAt d text s i.origin) (sym state) (began-typed d text search_state i.origin kept.9),
       subst (λ s. StandsAt d i.purpose query text s i.at i.count) (sym state) (stands-typed d i.purpose query text search_state i.at i.count kept.10),

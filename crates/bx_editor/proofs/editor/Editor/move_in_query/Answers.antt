@@ -26,8 +26,9 @@ invariant_of-self g c =
     let place = subst (λ q. IsTextPlace d q cursor) c.as_str.ensures.value
     (c.in_ok-cursor.ensures.text_place (subst (λ q. IsTextPlace d q i.input_cursor) (sym c.as_str.ensures.value) was)) in
     let all = subst (λ (s : SearchState). StandsInLine d i.prompt s query other answer cursor × BeganAt d text s i.origin
-    × StandsAt d i.purpose query text s i.at i.count) (sym c.as_typed.ensures)
-    (stands-in-query d query other answer cursor i.prompt i.cursor.search_state prompt on place,
-    began-moved d text i.cursor.search_state i.origin kept.9,
-    queried-moved d i.purpose query text i.cursor.search_state i.at i.count on) in
+    × StandsAt d i.purpose query text s i.at i.count) (sym c.as_typed-self-inside.ensures) (
+      stands-in-query d query other answer cursor i.prompt i.cursor.search_state prompt on place,
+      began-moved d text i.cursor.search_state i.origin kept.9,
+      queried-moved d i.purpose query text i.cursor.search_state i.at i.count on,
+    ) in
     (kept.0, kept.1, kept.2, kept.3, kept.4, kept.5, kept.6, all.0, kept.8, all.1, all.2)

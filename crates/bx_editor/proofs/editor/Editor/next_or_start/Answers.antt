@@ -1,6 +1,8 @@
 use Rattle.std.proofs.Common.{◌≡◌, arith, nat_lt, subst, sym}
 use Rattle.std.specs.Prelude.{find, unwrap_or}
 use Rattle.bx_view.specs.TextRows.{places, text_rows}
+use Rattle.bx_view.specs.Places.{IsTextPlace}
+use Rattle.bx_editor.specs.Functions.{EditorState}
 use Rattle.bx_editor.specs.Search.{next_or_start}
 use Rattle.bx_editor.proofs.Begin.{begin-is-place}
 use Rattle.bx_editor.proofs.Sought.{next-is-start}
@@ -16,3 +18,8 @@ returns-clause-next g c =
 
 pub returns-clause-text_place : goal.returns-clause-text_place
 returns-clause-text_place g c = begin-is-place (g.D.BidiData.data c.args.self.now.tables) c.args.self.now.editor.content.text
+
+pub returns-then-self-next-clause-text_place : goal.returns-then-self-next-clause-text_place
+returns-then-self-next-clause-text_place g c =
+    subst (λ (s : EditorState g.row.D.Denot). IsTextPlace (g.D.BidiData.data s.tables) s.editor.content.text c.in_ok-next.next) c.self.view_is
+    (c.in_ok-next.ensures.text_place c.self.invariant.0)

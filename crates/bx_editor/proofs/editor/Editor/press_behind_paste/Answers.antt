@@ -1,9 +1,11 @@
 use Rattle.std.proofs.Common.{◌≡◌, ℕ, List, None, Some, ap, sym, subst, string_bytes, ◌∙◌}
 use Rattle.std.specs.Prelude.{OnOk, Option, option_map}
 use Rattle.bx_ucd.specs.Data.{Data}
+use Rattle.bx_document.specs.Document.{DocumentState}
 use Rattle.bx_editor.specs.Editor.{Editor}
 use Rattle.bx_editor.specs.Functions.{EditorState}
 use Rattle.bx_editor.specs.Keys.{after_user}
+use Rattle.bx_editor.specs.Status.{IsDrawn}
 use Rattle.bx_editor.specs.Putting.{ended_with, paste_ended, with_pasted}
 use Rattle.bx_editor.proofs.Pasted.{none-ended}
 use Rattle.bx_editor.proofs.Refused.{all-restored, with_document}
@@ -12,9 +14,18 @@ use Rattle.bx_editor.proofs.editor.Editor.press_behind_paste.Goals as goal
 
 pub invariant_of-self-in-Err : goal.invariant_of-self-in-Err
 invariant_of-self-in-Err g c =
-    subst (holds_of g.D.BidiData)
-    (sym (all-restored g.D.BidiData c.self.inside c.self-2.inside _ _ _ _ c.restore.ensures c.in_ok-document.ensures.text c.self-2.view_is c.in-Err.ensures.err
-    c.in-Err.ensures.tables)) c.self.invariant
+    let i = c.self.inside in
+    let j = c.self-2.inside in
+    let kept = c.self.invariant in
+    let restored =
+    all-restored g.D.BidiData i j _ _ _ _ c.restore.ensures c.in_ok-document.ensures.text c.self-2.view_is c.in-Err.ensures.err c.in-Err.ensures.tables in
+    let tables : j.document.tables ≡ c.restore.new.self.tables = sym (ap (λ (t : DocumentState g.row.D.Denot). t.tables) c.restore.ensures) in
+    let name = option_map string_bytes j.name in
+    let drawn : IsDrawn (g.D.BidiData.data c.restore.new.self.tables) name j.drawn_name =
+    subst (λ t. IsDrawn (g.D.BidiData.data t) name j.drawn_name) tables c.self-2.invariant.8 in
+    let drawn_before = subst (λ (s : EditorState g.row.D.Denot). IsDrawn (g.D.BidiData.data s.tables) s.editor.name j.drawn_name) restored drawn in
+    subst (holds_of g.D.BidiData j.drawn_name) (sym restored)
+    (kept.0, kept.1, kept.2, kept.3, kept.4, kept.5, kept.6, kept.7, drawn_before, kept.9, kept.10)
 
 pub returns-in-Err-clause-err : goal.returns-in-Err-clause-err
 returns-in-Err-clause-err g c =
