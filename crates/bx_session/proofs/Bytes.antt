@@ -13,18 +13,20 @@ use Rattle.bx_store.specs.declared.store.StoreFault.{StoreFault}
 use Rattle.bx_ucd.specs.Data.{Data}
 use Rattle.bx_editor.specs.Editor.{Editor, at_start, with_top}
 use Rattle.bx_editor.specs.Functions.{EditorState, HasRows}
-use Rattle.bx_editor.specs.Keys.{after_key, asks_for_whole}
+use Rattle.bx_editor.specs.Keys.{asks_for_whole}
 use Rattle.bx_editor.specs.declared.scrolling.Scroll.{Scroll}
 use Rattle.bx_session.specs.declared.status.Refused.{Refused}
 use Rattle.bx_session.specs.declared.status.Refused.TheVariants.{Edit, Paint, Size}
 use Rattle.bx_session.specs.Session.{Session, with_painting, with_painting_owed, with_picture, at_opening, before_painting, key_of_byte}
 use Rattle.bx_session.specs.Session.{after_spending, session_after_any, unpainted_after_byte, is_painted, needs_painting, painted_after, scroll_behind}
 use Rattle.bx_session.specs.Session.{picture_of, after_byte, session_after_key, unpainted_after_told, SaveEnds, StoreAfter, StoreState, may_refuse_key}
-use Rattle.bx_session.specs.Session.{with_text}
+use Rattle.bx_session.specs.Session.{is_save_byte, stores_by, text_to_save, with_settings, with_text}
+use Rattle.bx_editor.specs.Settings.{SettingsState}
+use Rattle.bx_editor.specs.Settings as editor_settings
 use Rattle.bx_session.specs.Feeding.{SessionState, is_idle, AfterByte, ToldBy}
 use Rattle.bx_session.specs.Painting.{AppendsPainting, FeedAppends, QueuesPicture, FeedPaints}
 use Rattle.bx_session.specs.declared.status.Status.{Status}
-use Rattle.bx_session.proofs.KeySizes.{key_goes_on, same_ended}
+use Rattle.bx_session.proofs.KeySizes.{same_ended}
 use Rattle.bx_session.proofs.Tops.{opening_stays}
 
 -- ---- opening
@@ -131,6 +133,42 @@ asks_for s b key is =
     ∙ ap (λ (e : Editor). s.painting_owed || needs_painting e key) (spent_editor s b)
     ∙ ap (λ k. s.painting_owed || needs_painting s.editor k) is
 
+-- a byte's key, once the byte is spent, stores what it would store
+stores_entered : {D : Type 0} (old mid : SessionState D) (b : ℕ) (key : Option Key) (pressed : Key) → key ≡ key_of_byte old.session b
+    → mid ≡ record old { session = after_spending old.session b } → key ≡ Some pressed
+    → stores_by mid.session.editor (Some pressed) ≡ is_save_byte old.session b
+stores_entered {D} old mid b key pressed completes is some =
+    ap (λ (k : Option Key). stores_by mid.session.editor k) (sym some ∙ completes)
+    ∙ ap (λ (x : SessionState D). stores_by x.session.editor (key_of_byte old.session b)) is
+    ∙ ap (λ (e : Editor). stores_by e (key_of_byte old.session b)) (spent_editor old.session b)
+
+pub stores_none : {D : Type 0} (old mid : SessionState D) (b : ℕ) (key : Option Key) (pressed : Key) → key ≡ key_of_byte old.session b
+    → mid ≡ record old { session = after_spending old.session b } → key ≡ Some pressed → is_save_byte old.session b ≡ false
+    → stores_by mid.session.editor (Some pressed) ≡ false
+stores_none {D} old mid b key pressed completes is some none = stores_entered old mid b key pressed completes is some ∙ none
+
+pub entered_store : {D : Type 0} (ucd : D → Data) (fault : Option StoreFault) (old mid : SessionState D) (before after : StoreState) (b : ℕ)
+    (key : Option Key) (pressed : Key) → key ≡ key_of_byte old.session b → mid ≡ record old { session = after_spending old.session b }
+    → key ≡ Some pressed
+    → StoreAfter (stores_by mid.session.editor (Some pressed)) fault (text_to_save (ucd mid.tables) mid.session.editor) before after
+    → StoreAfter (is_save_byte old.session b) fault (text_to_save (ucd old.tables) old.session.editor) before after
+entered_store {D} ucd fault old mid before after b key pressed completes is some h =
+    let text : text_to_save (ucd mid.tables) mid.session.editor ≡ text_to_save (ucd old.tables) old.session.editor =
+    ap (λ (x : SessionState D). text_to_save (ucd x.tables) x.session.editor) is
+    ∙ ap (λ (e : Editor). text_to_save (ucd old.tables) e) (spent_editor old.session b) in
+    subst (λ (stores : Bool). StoreAfter stores fault (text_to_save (ucd old.tables) old.session.editor) before after)
+    (stores_entered old mid b key pressed completes is some)
+    (subst (λ (xs : List ℕ). StoreAfter (stores_by mid.session.editor (Some pressed)) fault xs before after) text h)
+
+pub entered_is : {D : Type 0} (ucd : D → Data) (fault : Option StoreFault) (old mid new : SessionState D) (b : ℕ) (key : Option Key) (pressed : Key)
+    → key ≡ key_of_byte old.session b → mid ≡ record old { session = after_spending old.session b } → key ≡ Some pressed
+    → new ≡ record mid { session = session_after_key (ucd mid.tables) fault mid.session pressed }
+    → new ≡ record old { session = unpainted_after_byte (ucd old.tables) fault old.session b }
+entered_is {D} ucd fault old mid new b key pressed completes is some entered =
+    entered
+    ∙ ap (λ (x : SessionState D). record x { session = session_after_key (ucd x.tables) fault x.session pressed }) is
+    ∙ ap (λ (k : Option Key). record old { session = session_after_any (ucd old.tables) fault (after_spending old.session b) k }) (sym some ∙ completes)
+
 with_clip_if : (paints : Bool) (plain painted new : Session) → paints ≡ true → new ≡ painted → new ≡ (if paints then painted else plain)
 with_clip_if true plain painted new is h = h
 with_clip_if false plain painted new is h = absurd (cc is)
@@ -185,6 +223,14 @@ idle_unpainted s b idle =
     let none = idle_key s b idle in
     ap (λ owed. owed || needs_painting s.editor (key_of_byte s b)) none.1 ∙ ap (needs_painting s.editor) none.0
 
+pub not_idle : (s : Session) (b : ℕ) → is_painted s b ≡ true → is_idle s b ≡ true → ⊥
+not_idle s b painted idle = let both : false ≡ true = sym (idle_unpainted s b idle) ∙ painted in cc both
+
+-- what holds where an answer is a refusal
+pub refused_with : {A E P : Type 0} (result : Result A E) → P → OnErr result P
+refused_with (Ok value) h = tt
+refused_with (Err e) h = h
+
 pub idle_not_refused : (s : Session) (b : ℕ) → is_idle s b ≡ true → may_refuse_key s.editor (key_of_byte s b) ≡ true → ⊥
 idle_not_refused s b idle refuses = let same : false ≡ true = ap (may_refuse_key s.editor) (sym (idle_key s b idle).0) ∙ refuses in cc same
 
@@ -235,6 +281,30 @@ pub byte_appends : {D : Type 0} (ucd : D → Data) (fault : Option StoreFault) (
     → mid ≡ record old { session = unpainted_after_byte (ucd old.tables) fault old.session b }
     → AppendsPainting (ucd mid.tables) mid.session.pending mid.session.known new → FeedAppends (ucd old.tables) old.session b new
 byte_appends ucd fault old mid new b e h = byte_says (λ d before known. AppendsPainting d before known new) ucd fault old mid b e h
+
+-- ---- settings
+
+pub set_is : {D : Type 0} (ucd : D → Data) (old : SessionState D) (e e' : EditorState D) (s new : Session) (settings : SettingsState) (queue : List ℕ)
+    → record { tables = e.tables; session = s } ≡ old → s.editor ≡ e.editor
+    → e' ≡ record e { editor = editor_settings.with_settings e.editor settings } → queue ≡ []
+    → new ≡ with_painting (ucd e'.tables) (record s { editor = e'.editor; painted = None; known = None; pending = drop 0 queue })
+    → new ≡ with_settings (ucd old.tables) old.session settings
+set_is {D} ucd old e e' s new settings queue view same set empty painted =
+    painted
+    ∙ ap (λ (x : EditorState D). with_painting (ucd x.tables) (record s { editor = x.editor; painted = None; known = None; pending = drop 0 queue })) set
+    ∙ ap (λ xs. with_painting (ucd e.tables) (record s {
+      editor = editor_settings.with_settings e.editor settings;
+      painted = None;
+      known = None;
+      pending = drop 0 xs;
+    })) empty
+    ∙ ap (λ (x : Editor). with_painting (ucd e.tables) (record s {
+      editor = editor_settings.with_settings x settings;
+      painted = None;
+      known = None;
+      pending = [];
+    })) (sym same)
+    ∙ ap (λ (x : SessionState D). with_settings (ucd x.tables) x.session settings) view
 
 -- ---- a told size
 

@@ -1,6 +1,6 @@
 -- A key that ends a paste: the same key after the end of the paste; and the keys that a replay passes over.
 use Rattle.std.proofs.Common.{◌≡◌, ℕ, Bool, true, false, not, ◌&&◌, ◌||◌, List, Option, Some, None, refl, sym, ap, subst, ◌∙◌, if◌then◌else◌}
-use Rattle.std.specs.Prelude.{◌≢◌, is_some, Result, Ok, Err, OnErr}
+use Rattle.std.specs.Prelude.{◌≢◌, is_some, option_map, Result, Ok, Err, OnErr}
 use Rattle.bx_keys.specs.declared.key.Key.{Key}
 use Rattle.bx_keys.specs.declared.key.Key.TheVariants.{Save, Quit}
 use Rattle.bx_store.specs.declared.store.StoreFault.{StoreFault}
@@ -111,7 +111,7 @@ pub same_place : (d : Data) (e : Editor) → place_of (paste_ended d e) ≡ plac
 same_place d e = stays_at d (place_of e) e refl
 
 -- so a Save stores the text where it did
-abbrev saves_at : Place → Prompt → Bool
+abbrev pub saves_at : Place → Prompt → Bool
 saves_at at prompts.Overwrite = false
 saves_at at prompt = not (at.read_only || is_empty_name at.name)
 
@@ -228,18 +228,21 @@ each-session d prompt search_state s P quit other Quit = quit
 each-session d prompt search_state s P quit other key = other key refl
 
 -- a Quit that gives up a search or a question
-given_up : (d : Data) (prompt : Prompt) (s : Session)
-    → (if stores s.editor Quit then record s { editor = after_passed prompt Quit (paste_ended d s.editor) } else session_after_key d None s Quit)
-    ≡ session_after_key d None s Quit
-given_up d prompt s =
-    unless_stored (stores s.editor Quit) (record s { editor = after_passed prompt Quit (paste_ended d s.editor) }) (session_after_key d None s Quit)
-    (quit_stores_nothing s.editor)
-
 pub quits_with : (d : Data) (prompt : Prompt) (search_state : SearchState) (s : Session)
     → ((prompt ≡ prompts.Off) × (search_state ≡ Off) → ⊥) → session_after_replayed d prompt search_state s Quit ≡ session_after_key d None s Quit
 quits_with d prompts.Off Off s other = absurd (other (refl, refl))
-quits_with d prompts.Off search_state s other = given_up d prompts.Off s
-quits_with d prompt search_state s other = given_up d prompt s
+quits_with d prompts.Off search_state s other = refl
+quits_with d prompt search_state s other = refl
+
+-- what is there, in another form
+pub some_of : {A B : Type 0} (f : A → B) (o : Option A) → is_some o ≡ is_some (option_map f o)
+some_of f None = refl
+some_of f (Some x) = refl
+
+-- a key that is not Quit
+pub not_quit : (key : Key) → (key ≡ Quit → ⊥) → is_quit (Some key) ≡ false
+not_quit Quit other = absurd (other refl)
+not_quit key other = refl
 
 quit_first : (d : Data) (s : Session)
     → session_after_key d None (record s { editor = paste_ended d s.editor }) Quit ≡ session_after_key d None s Quit
@@ -250,10 +253,8 @@ quit_session : (d : Data) (prompt : Prompt) (search_state : SearchState) (s : Se
 quit_session d prompts.Off Off s =
     let e : Editor = paste_ended d s.editor in
     ap (λ (x : Editor). record s { editor = after_passed_quit x }) (not_pasting d e (over d s.editor))
-quit_session d prompts.Off search_state s =
-    given_up d prompts.Off (record s { editor = paste_ended d s.editor }) ∙ quit_first d s ∙ sym (given_up d prompts.Off s)
-quit_session d prompt search_state s =
-    given_up d prompt (record s { editor = paste_ended d s.editor }) ∙ quit_first d s ∙ sym (given_up d prompt s)
+quit_session d prompts.Off search_state s = quit_first d s
+quit_session d prompt search_state s = quit_first d s
 
 -- a Quit, once the paste has ended
 pub quit_passed : {D : Type 0} (ucd : D → Data) (old mid new : SessionState D)
@@ -281,9 +282,11 @@ other_session d prompt search_state s key other h =
     unless_stored (stores s.editor key) (record s { editor = after_passed prompt key (paste_ended d s.editor) }) (session_after_key d None s key) h
 
 pub passed_is : {D : Type 0} (ucd : D → Data) (old new : SessionState D) (key : Key) → stores old.session.editor key ≡ true
-    → new ≡ record old { session = record old.session {
-      editor = after_passed (paste_ended (ucd old.tables) old.session.editor).prompt key (paste_ended (ucd old.tables) old.session.editor);
-    } } → new ≡ record old { session = session_replayed_on (ucd old.tables) old.session key }
+    → new ≡ record old {
+      session = record old.session {
+        editor = after_passed (paste_ended (ucd old.tables) old.session.editor).prompt key (paste_ended (ucd old.tables) old.session.editor);
+      };
+    } → new ≡ record old { session = session_replayed_on (ucd old.tables) old.session key }
 passed_is {D} ucd old new key h is =
     let e : Editor = paste_ended (ucd old.tables) old.session.editor in
     is ∙ ap (λ (s : Session). record old { session = s }) (sym (stored_session (ucd old.tables) e.prompt e.search_state old.session key h))

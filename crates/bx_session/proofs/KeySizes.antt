@@ -1,6 +1,6 @@
 -- A key keeps the window's size, unless it tells one, and the row shown first; and only a Quit ends a session.
 use Rattle.std.proofs.Common.{◌≡◌, ℕ, ◌+◌, Bool, true, false, List, [], ◌∷◌, ◌++◌, Option, Some, None, refl, sym, ap, subst, ◌∙◌, if◌then◌else◌}
-use Rattle.std.specs.Prelude.{not, ◌||◌, ◌&&◌, ◌==◌, encode_utf8, length, min, nat_le, replicate}
+use Rattle.std.specs.Prelude.{not, ◌||◌, ◌==◌, encode_utf8, length, min, nat_le, replicate}
 use Rattle.bx_text.specs.declared.change.Change.{Change}
 use Rattle.bx_text.specs.Edits.{Edit, fits}
 use Rattle.bx_keys.specs.declared.key.Key.{Key}
@@ -37,18 +37,18 @@ use Rattle.bx_editor.specs.Effects.{Effect, Types, BeginsLine, Puts, Removes, Re
 use Rattle.bx_editor.specs.Effects.{Wheels, Marks, Selects, SelectsAll, Unmarks, Copies, Cuts, Seeks, SeeksNext, SeeksPrevious, Saves, Quits, Turns, Helps}
 use Rattle.bx_editor.specs.Effects.{AsksLine, AsksName, AsksFile, AsksOverwrite, Tells, Refuses, Rests, by}
 use Rattle.bx_editor.specs.Erasing.{after_erasing, after_erasing_word, after_removing, or_selection, removed_on}
-use Rattle.bx_editor.specs.Keys.{after_any, after_asking, after_key, after_press, after_pressing, after_user, allowed_effect}
+use Rattle.bx_editor.specs.Keys.{after_any, after_key, after_press, after_pressing, after_user, allowed_effect}
 use Rattle.bx_editor.specs.Keys.{answered, answered_match, answered_name, answered_overwrite, answered_question, answered_replacement, as_left, asks_for_whole}
 use Rattle.bx_editor.specs.Keys.{refuses_replacing}
 use Rattle.bx_editor.specs.Functions.{is_size_key}
-use Rattle.bx_editor.specs.LinePuts.{after_line_put, typed_in, typed_in_search}
+use Rattle.bx_editor.specs.LinePuts.{after_line_put, typed_in}
 use Rattle.bx_editor.specs.Pointing.{after_drag, after_point, dragged_to, part_at, pointed_place, press_extent, pressed_at, pressing_with, rests_on_unit}
-use Rattle.bx_editor.specs.Pointing.{selecting_part, with_word}
+use Rattle.bx_editor.specs.Pointing.{with_word}
 use Rattle.bx_editor.specs.Putting.{after_paste_end, after_paste_start, ended_with, paste_ended, without_paste, after_character, after_new_line, after_put}
 use Rattle.bx_editor.specs.Putting.{after_tab, as_line, has_room, is_paste, new_indent, new_line_end, put_in, put_line, puts_line, spaces_on, typed, units_in_line, yielding}
 use Rattle.bx_editor.specs.Region.{after_copy, after_cut, after_mark, is_at_mark, is_empty, is_selection, is_soft, line, region, selecting, taken, unselected}
 use Rattle.bx_editor.specs.RowMoves.{after_wheel, shows_place, wheel_top}
-use Rattle.bx_editor.specs.Saving.{after_confirming, after_deciding, after_naming, after_save, after_saving, confirms, is_changed, is_nameless, takes_name}
+use Rattle.bx_editor.specs.Saving.{after_save, after_saving, is_changed, is_nameless}
 use Rattle.bx_editor.specs.Search.{sought, without_search}
 use Rattle.bx_editor.proofs.EffectsKept.{IsKeptPasting, pasted-letter-keeps, start-keeps}
 use Rattle.bx_editor.proofs.InSearch.{each-key, press-keeps}

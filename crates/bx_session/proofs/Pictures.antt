@@ -1,5 +1,5 @@
 -- Pictures have their editor's size, and the session after a painting, with a clip or without.
-use Rattle.std.proofs.Common.{◌≡◌, ◌⊎◌, ℕ, ◌≤◌, Bool, true, false, ◌&&◌, List, [], ◌∷◌, ◌++◌, length, drop, Option, Some, None, Ok, refl, sym, ap, subst, inl, inr}
+use Rattle.std.proofs.Common.{◌≡◌, ℕ, ◌≤◌, Bool, true, false, ◌&&◌, List, [], ◌++◌, length, drop, Option, Some, None, Ok, refl, sym, ap, subst, inl, inr}
 use Rattle.std.proofs.Common.{◌∙◌, append_assoc, arith, if◌then◌else◌}
 use Rattle.std.specs.Prelude.{IfSome}
 use Rattle.std.proofs.lemmas.List.{append-nil, drop-append-le, length-append}
@@ -7,7 +7,7 @@ use Rattle.base64.specs.Engines.{standard}
 use Rattle.base64.specs.GeneralPurpose.{decode_of}
 use Rattle.base64.specs.GeneralPurpose.{encode_of}
 use Rattle.bx_grid.specs.Tokens.{clip_bytes}
-use Rattle.bx_grid.specs.Picture.{PictureState, IsIdle, Shows}
+use Rattle.bx_grid.specs.Picture.{PictureState, Shows}
 use Rattle.bx_grid.specs.Grid.{AreWholeTokens, IsPicture}
 use Rattle.bx_grid.specs.Terminal.{Terminal, reads}
 use Rattle.bx_keys.specs.declared.key.Key.{Key}
@@ -20,7 +20,7 @@ use Rattle.bx_editor.specs.Status.{input_column}
 use Rattle.bx_session.specs.declared.session.Session.TheInside.{Inside}
 use Rattle.bx_session.specs.Session.{Session, clip_after, painted_after, painting, picture_of, then_clip}
 use Rattle.bx_session.specs.Feeding.{known_if}
-use Rattle.bx_session.specs.Painting.{AppendsPainting, IsClipOf, QueuesPicture, Updates}
+use Rattle.bx_session.specs.Painting.{AppendsPainting, FitsEditor, IsClipOf, QueuesPicture, Updates}
 use Rattle.bx_session.proofs.Tops.{drawn_is, input_unseen, stands_on}
 
 either_height : (ended : Bool) (p q : PictureState) (h : ℕ) → p.height ≡ h → q.height ≡ h → (if ended then p else q).height ≡ h
@@ -47,6 +47,12 @@ picture_height d e top =
 pub picture_width : (d : Data) (e : Editor) (top : ℕ) → (picture d e top).width ≡ e.width
 picture_width d e top =
     either_width e.ended (blank_picture e.height e.width) (text_picture d e top (rows d e)) e.width refl (cursor_width (input_column d e) _)
+
+-- so a picture of an editor has the size of the one before
+pub fits_next : (known : Option PictureState) (e : Editor) (next : PictureState) → FitsEditor known e → next.height ≡ e.height → next.width ≡ e.width
+    → IfSome known (λ p. (p.height ≡ next.height) × (p.width ≡ next.width))
+fits_next None e next h high wide = tt
+fits_next (Some p) e next h high wide = (h.0 ∙ sym high, h.1 ∙ sym wide)
 
 -- the value of a session's fields
 abbrev pub value_of : {D : Type 0} → Inside D → Session

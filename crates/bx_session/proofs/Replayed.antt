@@ -23,9 +23,9 @@ use Rattle.bx_session.specs.Parts.{is_quit}
 use Rattle.bx_session.specs.Session.{Session, session_after_key, with_painting_owed}
 use Rattle.bx_session.specs.Replaying.{after_all_replayed, after_passed, after_replay, after_replayed, after_replayed_key, moved_by, replayed_on, scrolled_on}
 use Rattle.bx_session.specs.Replaying.{session_after_replayed, session_scrolled}
-use Rattle.bx_session.proofs.KeyKinds.{is_other, not_quitting, quit_stores_nothing, stores}
+use Rattle.bx_session.proofs.KeyKinds.{is_other, not_quitting, stores}
 use Rattle.bx_session.proofs.KeySizes.{ended_goes_on, key_goes_on}
-use Rattle.bx_session.proofs.Ending.{quit_user, unless_stored}
+use Rattle.bx_session.proofs.Ending.{quit_user}
 
 -- ---- the keys of a replay
 
@@ -48,15 +48,11 @@ each-replayed d prompt search_state e P quit stored other key =
     (λ h. other key (is_not (stores e key) h))
 
 -- a Quit that gives up a search or a question
-given_up : (d : Data) (prompt : Prompt) (e : Editor)
-    → (if stores e Quit then after_passed prompt Quit (paste_ended d e) else after_key d None e Quit) ≡ after_key d None e Quit
-given_up d prompt e = unless_stored (stores e Quit) (after_passed prompt Quit (paste_ended d e)) (after_key d None e Quit) (quit_stores_nothing e)
-
 pub quit_replayed : (d : Data) (prompt : Prompt) (search_state : SearchState) (e : Editor) → ((prompt ≡ prompts.Off) × (search_state ≡ Off) → ⊥)
     → after_replayed d prompt search_state e Quit ≡ after_key d None e Quit
 quit_replayed d prompts.Off Off e other = absurd (other (refl, refl))
-quit_replayed d prompts.Off search_state e other = given_up d prompts.Off e
-quit_replayed d prompt search_state e other = given_up d prompt e
+quit_replayed d prompts.Off search_state e other = refl
+quit_replayed d prompt search_state e other = refl
 
 -- ---- the editor and the unfinished input of a session
 
@@ -74,18 +70,13 @@ passed_session d prompt s key = record s { editor = after_passed prompt key (pas
 quit_editor : (d : Data) (prompt : Prompt) (search_state : SearchState) (s : Session)
     → (session_after_replayed d prompt search_state s Quit).editor ≡ after_replayed d prompt search_state s.editor Quit
 quit_editor d prompts.Off Off s = refl
-quit_editor d prompts.Off search_state s =
-    editor_if (stores s.editor Quit) s (passed_session d prompts.Off s Quit) (session_after_key d None s Quit)
-    (after_passed prompts.Off Quit (paste_ended d s.editor)) (after_key d None s.editor Quit) refl refl
-quit_editor d prompt search_state s =
-    editor_if (stores s.editor Quit) s (passed_session d prompt s Quit) (session_after_key d None s Quit)
-    (after_passed prompt Quit (paste_ended d s.editor)) (after_key d None s.editor Quit) refl refl
+quit_editor d prompts.Off search_state s = refl
+quit_editor d prompt search_state s = refl
 
 quit_rest : (d : Data) (prompt : Prompt) (search_state : SearchState) (s : Session) → (session_after_replayed d prompt search_state s Quit).rest ≡ s.rest
 quit_rest d prompts.Off Off s = refl
-quit_rest d prompts.Off search_state s =
-    rest_if (stores s.editor Quit) s (passed_session d prompts.Off s Quit) (session_after_key d None s Quit) refl refl
-quit_rest d prompt search_state s = rest_if (stores s.editor Quit) s (passed_session d prompt s Quit) (session_after_key d None s Quit) refl refl
+quit_rest d prompts.Off search_state s = refl
+quit_rest d prompt search_state s = refl
 
 editor_is : (d : Data) (prompt : Prompt) (search_state : SearchState) (s : Session) (key : Key)
     → (session_after_replayed d prompt search_state s key).editor ≡ after_replayed d prompt search_state s.editor key

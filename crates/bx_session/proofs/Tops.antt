@@ -1,5 +1,5 @@
 -- The row that is shown first is not seen by itself, nor is a clipboard; and a text is opened with its first row first.
-use Rattle.std.proofs.Common.{◌≡◌, ℕ, ◌-◌, ◌<◌, ◌≤◌, Bool, true, false, List, [], ◌++◌, length, map, get_or, IsUtf8, Option, Some, None, refl, sym, ap, ap₂, ◌∙◌, nat_le, leb-true, arith, if◌then◌else◌}
+use Rattle.std.proofs.Common.{◌≡◌, ℕ, ◌-◌, ◌<◌, ◌≤◌, Bool, true, false, List, [], ◌++◌, length, map, IsUtf8, Option, Some, None, refl, sym, ap, ap₂, ◌∙◌, nat_le, leb-true, arith, if◌then◌else◌}
 use Rattle.std.specs.Prelude.{◌&&◌}
 use Rattle.std.proofs.lemmas.List.{get_or-map, length-map}
 use Rattle.bx_common.specs.Characters.{is_side, largest_side}

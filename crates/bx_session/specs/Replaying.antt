@@ -24,11 +24,16 @@ after_passed prompts.File Save e = after_passed_save e
 after_passed prompts.File key e = after_passed_answer e
 after_passed prompt key e = after_passed_save e
 
+-- A Quit of a journal gives up a search or a question; without one it does nothing but end a paste. `prompt` and `search_state` are what
+-- stands once a paste has ended.
+abbrev pub after_replayed_quit : Data → Prompt → SearchState → Editor → Editor
+after_replayed_quit d prompts.Off Off e = after_passed_quit (paste_ended d e)
+after_replayed_quit d prompt search_state e = after_key d None e Quit
+
 -- The effect of a key in a replay. A key that stored the text and a Quit end what any key ends, first a paste, and the former a search
--- and a question too; a Quit gives up a search or a question. Neither stores a text, nor ends the session. `prompt` and `search_state` are
--- what stands once a paste has ended.
+-- and a question too. Neither stores a text, nor ends the session.
 abbrev pub after_replayed : Data → Prompt → SearchState → Editor → Key → Editor
-after_replayed d prompts.Off Off e Quit = after_passed_quit (paste_ended d e)
+after_replayed d prompt search_state e Quit = after_replayed_quit d prompt search_state e
 after_replayed d prompt search_state e key =
     if is_some (saving_of e key) then after_passed prompt key (paste_ended d e) else after_key d None e key
 
@@ -51,8 +56,12 @@ after_all_replayed d e [] = e
 after_all_replayed d e (key ∷ keys) = after_all_replayed d (scrolled_on d (scrolled d e) key) keys
 
 -- the session after a key of a journal, in these states of question and search
+abbrev pub session_after_replayed_quit : Data → Prompt → SearchState → Session → Session
+session_after_replayed_quit d prompts.Off Off s = record s { editor = after_passed_quit (paste_ended d s.editor) }
+session_after_replayed_quit d prompt search_state s = session_after_key d None s Quit
+
 abbrev pub session_after_replayed : Data → Prompt → SearchState → Session → Key → Session
-session_after_replayed d prompts.Off Off s Quit = record s { editor = after_passed_quit (paste_ended d s.editor) }
+session_after_replayed d prompt search_state s Quit = session_after_replayed_quit d prompt search_state s
 session_after_replayed d prompt search_state s key =
     if is_some (saving_of s.editor key)
     then record s { editor = after_passed prompt key (paste_ended d s.editor) }

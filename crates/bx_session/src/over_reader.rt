@@ -66,7 +66,7 @@ pub fn run_recorded<D: BidiData + Drop, R: Read, J: Journal + Drop, W: Write, S:
 /// Runs a session over the reader, the recorder, the writer and the store of a device, which has the same four afterwards.
 fn run_wired<D: BidiData + Drop, R: Read, J: Journal + Drop, W: Write, S: Store>(
     limit: u64,
-    device: &mut Wired<'_, '_, '_, '_, R, J, W, S>,
+    device: &mut Wired<'_, R, J, W, S>,
     session: &mut Session<D>,
 ) -> Result<End, RunFault>
     ensures runs { RunsRecorded J.contents J.failure_count (D.data session.old.tables) session.old.session session.new.session

@@ -21,10 +21,12 @@ impl<D: BidiData + Drop> Session<D> {
     ///
     /// Errors: `Edit` if memory runs out for the end of a paste; nothing has changed.
     fn pass_stored(&mut self, key: Key) -> Result<(), Refused>
-        ensures after_key { OnOk result (self.new ≡ record self.old { session = record self.old.session {
-          editor = after_passed (paste_ended (D.data self.old.tables) self.old.session.editor).prompt key
-              (paste_ended (D.data self.old.tables) self.old.session.editor);
-        } }) }
+        ensures after_key { OnOk result (self.new ≡ record self.old {
+          session = record self.old.session {
+            editor = after_passed (paste_ended (D.data self.old.tables) self.old.session.editor).prompt key
+                (paste_ended (D.data self.old.tables) self.old.session.editor);
+          };
+        }) }
         ensures err { OnErr result (self.new ≡ self.old) }
         ensures pasting { OnErr result (is_some self.old.session.editor.pasted ≡ true) }
         ensures refused { OnErr result (result ≡ Err Refused.Edit) }
@@ -195,11 +197,17 @@ impl<D: BidiData + Drop> Session<D> {
     {
         let key = self.decode(byte);
         match self.press_completed(key) {
-            Err(Refused::Edit) => Err(Refused::Edit),
-            answer => {
+            Ok(()) => {
                 self.painting_owed = true;
-                answer
+                Ok(())
             }
+            Err(Refused::Paint) => {
+                self.painting_owed = true;
+                Err(Refused::Paint)
+            }
+            Err(Refused::Edit) => Err(Refused::Edit),
+            // never comes
+            Err(Refused::Size) => Err(Refused::Size),
         }
     }
 

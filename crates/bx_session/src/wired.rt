@@ -12,30 +12,22 @@ use bx_ucd::BidiData;
 use std::io::{Read, Write};
 
 /// A device of a reader, a recorder, a writer and a store.
+// One lifetime for all four, since the borrow checker does not cover a call with several where the session's type names `'static`.
 #[derive(Drop)]
-pub struct Wired<'r, 'j, 'w, 's, R: Read, J: Journal + Drop, W: Write, S: Store> {
-    pub(crate) reader: &'r mut R,
-    pub(crate) recorder: &'j mut Recorder<J>,
-    pub(crate) writer: &'w mut W,
-    pub(crate) store: &'s mut S,
+pub struct Wired<'a, R: Read, J: Journal + Drop, W: Write, S: Store> {
+    pub(crate) reader: &'a mut R,
+    pub(crate) recorder: &'a mut Recorder<J>,
+    pub(crate) writer: &'a mut W,
+    pub(crate) store: &'a mut S,
 }
 
-impl<'r, 'j, 'w, 's, R: Read, J: Journal + Drop, W: Write, S: Store> Wired<
-    'r,
-    'j,
-    'w,
-    's,
-    R,
-    J,
-    W,
-    S,
-> {
+impl<'a, R: Read, J: Journal + Drop, W: Write, S: Store> Wired<'a, R, J, W, S> {
     /// A device of these four.
     pub fn new(
-        reader: &'r mut R,
-        recorder: &'j mut Recorder<J>,
-        writer: &'w mut W,
-        store: &'s mut S,
+        reader: &'a mut R,
+        recorder: &'a mut Recorder<J>,
+        writer: &'a mut W,
+        store: &'a mut S,
     ) -> Self
         ensures reader { result.reader.ghost_name ≡ reader.entry.ghost_name }
         ensures recorder { result.recorder.ghost_name ≡ recorder.entry.ghost_name }
@@ -55,7 +47,7 @@ impl<'r, 'j, 'w, 's, R: Read, J: Journal + Drop, W: Write, S: Store> Wired<
     }
 }
 
-impl<R: Read, J: Journal + Drop, W: Write, S: Store> Device for Wired<'_, '_, '_, '_, R, J, W, S> {
+impl<R: Read, J: Journal + Drop, W: Write, S: Store> Device for Wired<'_, R, J, W, S> {
     ghost use Rattle.bx_session.specs.Session.{store_state};
     ghost use Rattle.bx_session.specs.Wire.{DidWired, ObeyedWired};
 

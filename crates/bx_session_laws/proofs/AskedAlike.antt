@@ -1,5 +1,5 @@
 -- A key in a question does the same to two editors of which the same lasts.
-use Rattle.std.proofs.Common.{◌≡◌, ℕ, Bool, true, false, List, [], ◌∷◌, ◌+◌, length, Option, Some, None, refl, sym, ap, ap₂, ◌∙◌, inl, inr, if◌then◌else◌}
+use Rattle.std.proofs.Common.{◌≡◌, ℕ, Bool, true, false, List, [], ◌∷◌, ◌+◌, length, Option, Some, None, refl, sym, ap, ap₂, inl, inr, if◌then◌else◌}
 use Rattle.std.specs.Prelude.{◌==◌, ◌⊎◌, ◌&&◌, ◌||◌, not, chars, encode_utf8}
 use Rattle.bx_keys.specs.declared.key.Key.{Key}
 use Rattle.bx_store.specs.declared.store.StoreFault.{StoreFault}
@@ -16,24 +16,24 @@ use Rattle.bx_editor.specs.questions.KeyLetters.{code_letter, name_letter}
 use Rattle.bx_editor.specs.questions.Names.{coded, is_code_letter, asks_code, closing, named}
 use Rattle.bx_editor.specs.questions.Answers.{asked, is_line_letter}
 use Rattle.bx_editor.specs.declared.undo_groups.typing.Typing.{Typing}
-use Rattle.bx_editor.specs.declared.undo_groups.typing.Typing.TheVariants as typings
 use Rattle.bx_editor.specs.undo_groups.Groups.{after_insertion, kind_of}
 use Rattle.bx_editor.specs.declared.message.Message.TheVariants.{TextFull, MoreThanOneLine, ViewOnly}
 use Rattle.bx_editor.specs.Asking.{after_answer_letter, after_code, after_code_letter, after_erasing_answer, after_file_letter, after_going, after_line_letter}
 use Rattle.bx_editor.specs.Asking.{after_name_key, after_name_letter, after_named, after_wrapping, answer_lengthened, answer_line, asking, gone_to, is_code_prompt}
-use Rattle.bx_editor.specs.Asking.{is_of_last, longest_code, longest_line, longest_name, spans_lines, with_answer, with_character, with_wrap, without_prompt}
+use Rattle.bx_editor.specs.Asking.{is_of_last, longest_code, longest_line, spans_lines, with_answer, with_character, with_wrap, without_prompt}
 use Rattle.bx_editor.specs.Before.{Before}
 use Rattle.bx_editor.specs.Editor.{Editor, place_after, with_insertion, with_typing}
-use Rattle.bx_editor.specs.InputLines.{after_taking, ends_line, erases_nothing, is_no_letter, is_taken, line_shortened, paste_behind, with_paste_behind}
-use Rattle.bx_editor.specs.Keys.{after_pressing, answered_name, answered_overwrite, answered_question, is_typed}
+use Rattle.bx_editor.specs.InputLines.{after_taking, erases_nothing, is_no_letter, is_taken, line_shortened, paste_behind, with_paste_behind}
+use Rattle.bx_editor.specs.Keys.{after_pressing, answered_name, answered_overwrite, answered_question}
 use Rattle.bx_editor.specs.LinePuts.{after_line_put}
 use Rattle.bx_editor.specs.Putting.{is_paste}
 use Rattle.bx_editor.specs.Region.{is_empty, region}
 use Rattle.bx_editor.specs.RowMoves.{after_wheel}
-use Rattle.bx_editor.specs.Saving.{after_confirming, after_deciding, after_naming, after_save, after_saving, after_saving_under, asking_name, can_save, confirms, is_nameless}
+use Rattle.bx_editor.specs.Saving.{after_confirming, after_deciding, after_save, after_saving_under, asking_name, can_save, confirms, is_nameless, longest_name}
 use Rattle.bx_editor.proofs.TwoEdits.{runs-of-two, stored-of-two}
-use Rattle.bx_session_laws.proofs.Lasting.{Lasting, Presses, lasting, having, scrolls}
-use Rattle.bx_session_laws.proofs.Alike.{Alike, either_alike, idle, going_on, insertion_alike, naming_alike, pressed_alike, under, wheel_alike, with_same_top}
+use Rattle.bx_session_laws.proofs.Lasting.{Presses, lasting, having, scrolls}
+use Rattle.bx_session_laws.proofs.Alike.{Alike, either_alike, idle, going_on, insertion_alike}
+use Rattle.bx_session_laws.proofs.PressedAlike.{naming_alike, pressed_alike, wheel_alike, with_same_top}
 use Rattle.bx_session_laws.proofs.Alike.{Edits, work}
 
 -- nothing is asked any more

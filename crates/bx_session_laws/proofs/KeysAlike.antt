@@ -1,7 +1,7 @@
 -- Any key that stores nothing and is no Quit does the same to two editors of which the same lasts, if they show the same row first or it
 -- rests on no row of the picture.
-use Rattle.std.proofs.Common.{◌≡◌, ℕ, Bool, true, false, List, [], ◌∷◌, ◌++◌, length, Option, Some, None, refl, sym, ap, subst, ◌∙◌, inl, inr, ⊎_elim, if◌then◌else◌}
-use Rattle.std.specs.Prelude.{◌==◌, ◌≢◌, ◌⊎◌, ◌&&◌, ◌||◌, not, is_some}
+use Rattle.std.proofs.Common.{◌≡◌, ℕ, Bool, true, false, List, [], length, Option, Some, None, refl, sym, ap, subst, ◌∙◌, inl, inr, if◌then◌else◌}
+use Rattle.std.specs.Prelude.{◌==◌, ◌⊎◌, ◌&&◌, ◌||◌, not, is_some}
 use Rattle.bx_keys.specs.declared.key.Key.{Key}
 use Rattle.bx_keys.specs.declared.key.Key.TheVariants.{Insert, Repaint, Save}
 use Rattle.bx_store.specs.declared.store.StoreFault.{StoreFault}
@@ -14,7 +14,7 @@ use Rattle.bx_editor.specs.declared.answer.Answer.TheVariants.{Letter, Erases, M
 use Rattle.bx_editor.specs.declared.input_line.Erasure.{Erasure}
 use Rattle.bx_editor.specs.declared.questions.answers.Prompt.{Prompt}
 use Rattle.bx_editor.specs.declared.questions.answers.Prompt.TheVariants as prompts
-use Rattle.bx_editor.specs.declared.message.Message.TheVariants.{Pasting, ViewOnly}
+use Rattle.bx_editor.specs.declared.message.Message.TheVariants.{ViewOnly}
 use Rattle.bx_editor.specs.declared.search_state.SearchState.{SearchState}
 use Rattle.bx_editor.specs.declared.search_state.SearchState.TheVariants.{Off, Begun, Typed, WithBegun, WithTyped, Replacing}
 use Rattle.bx_editor.specs.Answering.{answer_of, without_line}
@@ -22,15 +22,15 @@ use Rattle.bx_editor.specs.Before.{Before, before}
 use Rattle.bx_editor.specs.Clicks.{clicks_behind, pressed_behind}
 use Rattle.bx_editor.specs.Editor.{Editor, cleared, unpressed, with_typing}
 use Rattle.bx_editor.specs.Effects.{Refuses, by}
-use Rattle.bx_editor.specs.InputLines.{ends_line, erases_nothing, is_at_end, is_no_letter, is_taken, line_lengthened, line_shortened}
+use Rattle.bx_editor.specs.InputLines.{erases_nothing, is_taken, line_shortened}
 use Rattle.bx_editor.specs.Keys.{after_any, after_in_paste, after_key, after_press, after_user, answered, answered_question, as_left, ends_name, is_save, is_typed, overwrites}
 use Rattle.bx_editor.specs.Keys.{refuses_replacing, saving_by}
 use Rattle.bx_editor.specs.LinePuts.{after_line_put}
-use Rattle.bx_editor.specs.Putting.{after_paste_start, ended_with, is_paste, paste_begun, paste_ended, refuses_paste, with_paste, with_pasted, without_paste, put_in}
+use Rattle.bx_editor.specs.Putting.{after_paste_start, ended_with, is_paste, paste_begun, paste_ended, refuses_paste, with_pasted, without_paste, put_in}
 use Rattle.bx_editor.specs.Replacing.{after_asking_replacement, after_sought_end, after_sought_letter, is_replacing}
 use Rattle.bx_editor.specs.RowMoves.{goal_behind}
 use Rattle.bx_editor.specs.Saving.{Saving, can_save, confirms, is_empty_name, is_nameless, own_saving, saving_over, saving_under}
-use Rattle.bx_editor.specs.Search.{after_erasing_query, after_letter, kept, longest_query, query_line, search_on, with_query, without_search}
+use Rattle.bx_editor.specs.Search.{after_erasing_query, after_letter, query_line, search_on, with_query, without_search}
 use Rattle.bx_editor.specs.Region.{soft_behind}
 use Rattle.bx_editor.proofs.InSearch.{each-key, pressed-key}
 use Rattle.bx_session.proofs.Ending.{Place, over, ready_stores, same_place}
@@ -39,8 +39,9 @@ use Rattle.bx_session.proofs.KeySizes.{ended_top}
 use Rattle.bx_session.specs.Parts.{is_quit}
 use Rattle.bx_session_laws.specs.Recovery.{PastesAlone}
 use Rattle.bx_session_laws.proofs.Lasting.{Lasting, Presses, RestsAlike, Serves, answer_rests, answer_rests_alone, having, lasting, own, refuses_alike, scrolls}
-use Rattle.bx_session_laws.proofs.Alike.{Alike, either_alike, going_on, idle, idle_on, pressed_alike, put_in_alike}
-use Rattle.bx_session_laws.proofs.AskedAlike.{Unsaved, name_alike, overwrite_alike, question_alike, scrolled_alike, taking_alike}
+use Rattle.bx_session_laws.proofs.Alike.{Alike, either_alike, going_on, idle, idle_on, put_in_alike}
+use Rattle.bx_session_laws.proofs.PressedAlike.{pressed_alike}
+use Rattle.bx_session_laws.proofs.AskedAlike.{name_alike, overwrite_alike, question_alike, scrolled_alike, taking_alike}
 use Rattle.bx_session_laws.proofs.PutAlike.{letter_alike, line_put_in_alike, then_alike}
 use Rattle.bx_session_laws.proofs.ReplacingAlike.{asking_alike, ends_search_alike, match_alike, replacement_alike}
 

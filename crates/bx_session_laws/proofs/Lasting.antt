@@ -1,5 +1,5 @@
 -- What lasts in a replay, and the effects of keys on it.
-use Rattle.std.proofs.Common.{◌≡◌, ℕ, Bool, true, false, List, Option, Some, refl, sym, ap, subst, ◌∙◌, inl, inr, if◌then◌else◌}
+use Rattle.std.proofs.Common.{◌≡◌, ℕ, Bool, true, false, List, Option, Some, refl, sym, ap, ◌∙◌, inl, inr, if◌then◌else◌}
 use Rattle.std.specs.Prelude.{◌⊎◌, ◌&&◌, ◌||◌, not}
 use Rattle.bx_keys.specs.declared.key.Key.{Key}
 use Rattle.bx_keys.specs.declared.key.Key.TheVariants.{Drag, Point, Quit, Replace, Save, ScrollBack, ScrollOn}
@@ -19,7 +19,7 @@ use Rattle.bx_editor.specs.declared.answer.Answer.TheVariants.{Erases, Moves, Pa
 use Rattle.bx_editor.specs.declared.input_line.Erasure.TheVariants.{WordBack, WordOn}
 use Rattle.bx_editor.specs.Answering.{answer_of, without_line}
 use Rattle.bx_editor.specs.Editor.{Editor}
-use Rattle.bx_editor.specs.Effects.{Effect, Clicks as Presses, Drags, Refuses, Saves, Wheels}
+use Rattle.bx_editor.specs.Effects.{Effect, Clicks as ClicksAt, Drags, Refuses, Saves, Wheels}
 use Rattle.bx_editor.specs.Keys.{allowed_effect, changes_text, effect_of, is_save, refuses_replacing}
 use Rattle.bx_editor.specs.Saving.{can_save, is_nameless}
 use Rattle.bx_session_laws.specs.Recovery.{rests_on_top}
@@ -163,7 +163,7 @@ refuses_alike e f key = refl
 
 -- which effects rest on the row that is shown first
 abbrev pub rests : Effect → Bool
-rests (Presses row column) = true
+rests (ClicksAt row column) = true
 rests (Drags row column) = true
 rests (Wheels way) = true
 rests _ = false

@@ -1,5 +1,6 @@
 pub mod Lasting
 pub mod Alike
+pub mod PressedAlike
 pub mod SavedAlike
 pub mod Names
 pub mod WorkKept
@@ -13,6 +14,7 @@ pub mod Recovered
 pub mod TopsKept
 pub mod TopsAlike
 pub mod RecoveredParts
+pub mod ReplayTraces
 pub mod GivenBack
 pub mod PaintedAnew
 pub mod WholeLog

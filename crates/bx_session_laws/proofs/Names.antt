@@ -10,11 +10,11 @@ use Rattle.bx_editor.specs.Editor.{Editor, cleared}
 use Rattle.bx_editor.specs.Keys.{after_key}
 use Rattle.bx_editor.specs.Putting.{paste_ended}
 use Rattle.bx_editor.specs.Replay.{after_passed_answer, after_passed_save}
-use Rattle.bx_editor.specs.Saving.{after_save, is_empty_name, is_nameless, takes_name, with_answered_name, without_answer}
+use Rattle.bx_editor.specs.Saving.{after_save, is_empty_name, is_nameless, takes_name, with_answered_name, without_answer, is_changed}
 use Rattle.bx_session.specs.Replaying.{after_passed}
 use Rattle.bx_session.proofs.Ending.{Place, same_place}
-use Rattle.bx_session_laws.specs.Recovery.{IsNamed, NamesAgree}
-use Rattle.bx_session_laws.proofs.Alike.{Deed, Edits, TakesStep, TakesRun, Work, after_deed, after_deeds, work}
+use Rattle.bx_session_laws.specs.Recovery.{NamesAgree}
+use Rattle.bx_session_laws.proofs.Alike.{Deed, Edits, TakesStep, TakesRun, Work, after_deed, after_deeds}
 use Rattle.bx_session_laws.proofs.Lasting.{having, lasting}
 use Rattle.bx_session_laws.proofs.SavedAlike.{BySave, ByName, ByDecision, Stored, at_answer, at_decision, at_save, passed_by_save, passed_here}
 

@@ -46,7 +46,7 @@ shown : (d : Data) (s : Session) → with_painting d s ≡ s → Shown d s
 shown d s same =
     let e : Editor = s.editor in
     let stays : next_top d e e.top ≡ e.top = sym (least d e e.top) ∙ ap (λ (x : Session). x.editor.top) same in
-    let from_top = ap (λ top. Some (picture_of d (with_top e top))) stays in record {
+    let from_top = ap (λ top. Some (picture_of d (with_top e top))) (least d e e.top ∙ stays) in record {
       stays = stays;
       painted = sym (ap (λ (x : Session). x.painted) same) ∙ from_top;
       known = sym (ap (λ (x : Session). x.known) same) ∙ from_top;

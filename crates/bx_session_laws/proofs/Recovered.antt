@@ -4,7 +4,7 @@ use Rattle.std.proofs.Common.{arith}
 use Rattle.std.specs.Prelude.{◌≢◌, ◌⊎◌, ◌||◌, ◌&&◌, option_to_list}
 use Rattle.std.proofs.lemmas.List.Elements.{All-tail}
 use Rattle.bx_keys.specs.declared.key.Key.{Key}
-use Rattle.bx_keys.specs.declared.key.Key.TheVariants.{Insert, PasteStart, Quit, Repaint}
+use Rattle.bx_keys.specs.declared.key.Key.TheVariants.{Insert, Quit, Repaint}
 use Rattle.bx_keys.specs.Keys.{key_after, rest_after}
 use Rattle.bx_keys.specs.Waiting.{head_of}
 use Rattle.bx_store.specs.declared.store.StoreFault.{StoreFault}
@@ -20,8 +20,6 @@ use Rattle.bx_editor.specs.Editor.{Editor, cleared, unpressed, with_typing}
 use Rattle.bx_editor.specs.Keys.{after_any, after_in_paste, after_key, after_press, after_user, as_left}
 use Rattle.bx_editor.specs.Putting.{after_paste_end, after_paste_start, paste_begun, paste_ended, refuses_paste}
 use Rattle.bx_editor.specs.Prompts.{HasOnePrompt}
-use Rattle.bx_editor.specs.Replay.{after_passed_quit}
-use Rattle.bx_editor.specs.Saving.{is_empty_name, is_nameless}
 use Rattle.bx_editor.specs.Region.{aged}
 use Rattle.bx_editor.proofs.InSearch.{each-key}
 use Rattle.bx_editor.proofs.OnePrompt.{keeps-one-prompt}
@@ -34,7 +32,7 @@ use Rattle.bx_session.specs.Running.{ByteAnswer, FeedsAll, bytes_of}
 use Rattle.bx_editor.specs.Picture.{scrolled}
 use Rattle.bx_session.specs.Session.{StoreState, Session, is_save_byte, key_of_byte, stores_by}
 use Rattle.bx_session.specs.Feeding.{Feeds}
-use Rattle.bx_session.specs.Replaying.{after_all_replayed, after_passed, after_replay, after_replayed, moved_by, replayed_on, scrolled_on}
+use Rattle.bx_session.specs.Replaying.{after_all_replayed, after_replay, after_replayed, replayed_on, scrolled_on}
 use Rattle.bx_session.proofs.Ending.{over, quit_user}
 use Rattle.bx_session.proofs.KeyKinds.{is_other, not_quitting, not_storing, stores}
 use Rattle.bx_session.proofs.KeySizes.{user_pasted}
@@ -43,7 +41,7 @@ use Rattle.bx_session.proofs.Replayed.{applies, each-replayed, quit_replayed}
 use Rattle.bx_session_laws.specs.Recovery.{FindsNoChange, NamesAgree, PastesAlone, RefusesNoKey, finds_change, rests_on_top}
 use Rattle.bx_session_laws.proofs.Alike.{Work, work}
 use Rattle.bx_session_laws.proofs.KeysAlike.{ended_alike, key_alike}
-use Rattle.bx_session_laws.proofs.Lasting.{Lasting, RestsAlike, Serves, having, lasting, own}
+use Rattle.bx_session_laws.proofs.Lasting.{Lasting, Serves, having, lasting, own}
 use Rattle.bx_session_laws.proofs.Names.{agree_on, deeds_stay, stored_names}
 use Rattle.bx_session_laws.proofs.SavedAlike.{stored_kind, stored_lasts, stores_alike}
 use Rattle.bx_session_laws.proofs.WorkKept.{quit_names}
@@ -202,7 +200,7 @@ press_alone d fault e key None is alone = unpasted (after_user d fault e key) (u
 press_alone d fault e key (Some list) is alone =
     let here = alone (λ none. let both : Some list ≡ None = sym is ∙ none in cc both) in in_paste_alone d fault e key here.0 here.1
 
-keeps_alone : (d : Data) (fault : Option StoreFault) (e : Editor) (key : Key) → PastesAlone e → PastesAlone (after_key d fault e key)
+pub keeps_alone : (d : Data) (fault : Option StoreFault) (e : Editor) (key : Key) → PastesAlone e → PastesAlone (after_key d fault e key)
 keeps_alone d fault e key alone =
     each-key d fault e (λ k new. PastesAlone new) (λ height width. alone) (λ notice. alone) alone (start_alone e alone, unpasted (after_paste_end d e) (over d e))
     (λ k small. press_alone d fault e k e.pasted refl alone) key

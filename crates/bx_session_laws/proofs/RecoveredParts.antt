@@ -1,6 +1,6 @@
 -- What a replay gives back, part for part, in its middle and at its end.
 use Rattle.std.proofs.Common.{◌≡◌, ℕ, Bool, true, false, not, ◌&&◌, List, Option, Some, None, refl, sym, ap, subst, ◌∙◌, arith, if◌then◌else◌}
-use Rattle.std.specs.Prelude.{◌==◌, is_some}
+use Rattle.std.specs.Prelude.{is_some}
 use Rattle.std.proofs.lemmas.Bool.Decides.{nat_tests}
 use Rattle.bx_common.specs.declared.base.Base.{Base}
 use Rattle.bx_keys.specs.declared.key.Key.{Key}
@@ -25,7 +25,7 @@ use Rattle.bx_editor.specs.declared.search_state.SearchState.{SearchState}
 use Rattle.bx_editor.proofs.TopOnce.{top-stays}
 use Rattle.bx_session.specs.Beginning.{Beginning, after_going_to, at_offset, begun, changed_if, opened}
 use Rattle.bx_session.specs.Session.{clipboard_if, Session, StoreState, after_spending, at_opening, is_save_byte, key_of_byte, stores_by, unpainted_with_settings}
-use Rattle.bx_session.specs.Session.{with_painting_owed, with_settings}
+use Rattle.bx_session.specs.Session.{with_settings}
 use Rattle.bx_session.specs.Laws.{after_journal, after_replaying}
 use Rattle.bx_session.specs.Running.{ByteAnswer, FeedsAll, bytes_of}
 use Rattle.bx_session.specs.Replaying.{after_all_replayed, after_passed, after_replay, after_replayed_key, at_replay_end, session_replayed_on, session_scrolled}

@@ -1,5 +1,5 @@
 -- A key in replacing does the same to two editors of which the same lasts.
-use Rattle.std.proofs.Common.{◌≡◌, ℕ, Bool, true, false, List, [], ◌∷◌, ◌+◌, length, Option, Some, None, refl, sym, ap, ap₂, subst, if◌then◌else◌}
+use Rattle.std.proofs.Common.{◌≡◌, ℕ, true, false, List, [], ◌∷◌, ◌+◌, length, Option, Some, None, refl, sym, ap, ap₂, subst}
 use Rattle.std.specs.Prelude.{◌==◌, ◌&&◌, ◌⊎◌, not}
 use Rattle.bx_keys.specs.declared.key.Key.{Key}
 use Rattle.bx_store.specs.declared.store.StoreFault.{StoreFault}
@@ -28,7 +28,8 @@ use Rattle.bx_editor.specs.Replacing.{replacement_line, replacement_typed, shown
 use Rattle.bx_editor.specs.Search.{kept, landed, landing_from, longest_query, nothing_sought, sought, without_search}
 use Rattle.bx_editor.proofs.TwoEdits.{runs-of-two, stored-of-two}
 use Rattle.bx_session_laws.proofs.Lasting.{Lasting, Presses, lasting, having, scrolls}
-use Rattle.bx_session_laws.proofs.Alike.{Alike, Edits, either_alike, going_on, idle, pressed_alike, work}
+use Rattle.bx_session_laws.proofs.Alike.{Alike, Edits, either_alike, going_on, idle, work}
+use Rattle.bx_session_laws.proofs.PressedAlike.{pressed_alike}
 use Rattle.bx_session_laws.proofs.AskedAlike.{scrolled_alike, taking_alike}
 
 -- ---- matches give way

@@ -16,7 +16,7 @@ use Rattle.bx_editor.specs.declared.cursor.Soft.{Soft}
 use Rattle.bx_editor.specs.declared.cursor.Soft.TheVariants as softness
 use Rattle.bx_editor.specs.Editor.{Editor}
 use Rattle.bx_editor.proofs.Computed.{tables}
-use Rattle.bx_editor.specs.Settings.{SettingsState, plain}
+use Rattle.bx_editor.specs.Settings.{plain}
 use Rattle.bx_session.specs.Session.{Session, with_settings}
 use Rattle.bx_session.specs.Replaying.{after_journal}
 use Rattle.bx_session.proofs.Computed.{after, start, csi}

@@ -1,13 +1,14 @@
 -- A key that stores the text leaves the same of a session and of its replay, which only passes over it.
 use Rattle.std.proofs.Common.{◌≡◌, ℕ, Bool, true, false, List, [], Option, Some, None, length, refl, sym, ap, subst, ◌∙◌, if◌then◌else◌}
-use Rattle.std.specs.Prelude.{◌==◌, ◌≢◌, ◌&&◌, ◌||◌, not, is_some}
+use Rattle.std.specs.Prelude.{◌==◌, ◌&&◌, ◌||◌, not, is_some}
 use Rattle.bx_keys.specs.declared.key.Key.{Key}
 use Rattle.bx_keys.specs.declared.key.Key.TheVariants.{Insert, NewLine, Save}
 use Rattle.bx_store.specs.declared.store.StoreFault.{StoreFault}
 use Rattle.bx_ucd.specs.Data.{Data}
 use Rattle.bx_view.specs.declared.moves.Goal.{Goal}
+use Rattle.bx_editor.specs.Effects.{Refuses, by}
 use Rattle.bx_editor.specs.declared.answer.Answer.{Answer}
-use Rattle.bx_editor.specs.declared.answer.Answer.TheVariants.{Letter, Ends}
+use Rattle.bx_editor.specs.declared.answer.Answer.TheVariants.{Letter}
 use Rattle.bx_editor.specs.declared.clicks.Clicks.{Clicks}
 use Rattle.bx_editor.specs.declared.clicks.Pressed.{Pressed}
 use Rattle.bx_editor.specs.declared.cursor.Soft.{Soft}
@@ -18,12 +19,12 @@ use Rattle.bx_editor.specs.declared.undo_groups.typing.Typing.{Typing}
 use Rattle.bx_editor.specs.declared.undo_groups.typing.Typing.TheVariants as typings
 use Rattle.bx_editor.specs.Answering.{answer_of}
 use Rattle.bx_editor.specs.Asking.{after_answer_letter, without_prompt}
-use Rattle.bx_editor.specs.Before.{Before, before}
+use Rattle.bx_editor.specs.Before.{before}
 use Rattle.bx_editor.specs.Clicks.{clicks_behind, pressed_behind}
 use Rattle.bx_editor.specs.Editor.{Editor, cleared}
 use Rattle.bx_editor.specs.Functions.{is_told_key}
 use Rattle.bx_editor.specs.InputLines.{after_taking}
-use Rattle.bx_editor.specs.Keys.{after_any, after_key, after_user, answered_overwrite, answered_question, as_left, ends_name, is_save, is_typed, overwrites}
+use Rattle.bx_editor.specs.Keys.{after_any, after_key, answered_overwrite, answered_question, as_left, ends_name, is_save, is_typed, overwrites}
 use Rattle.bx_editor.specs.Keys.{refuses_replacing, saving_by}
 use Rattle.bx_editor.specs.Putting.{is_paste, paste_ended}
 use Rattle.bx_editor.specs.Region.{aged, soft_behind}
@@ -144,7 +145,7 @@ by_user : (d : Data) (fault : Option StoreFault) (e : Editor) (key : Key) (c : �
 by_user d fault e key c prompt letter none is =
     let old = cleared e in
     any-key d fault e key none letter.told
-    ∙ ap (λ b. as_left key (if b then _ else after_any d fault (before e) e.prompt e.search_state old key)) (letter.replaces e)
+    ∙ ap (λ b. as_left key (if b then by d fault (before e) old Refuses else after_any d fault (before e) e.prompt e.search_state old key)) (letter.replaces e)
     ∙ ap (λ p. as_left key (after_any d fault (before e) p e.search_state old key)) is
 
 taken : (d : Data) (typing : Typing) (c : ℕ) (e new : Editor) → is_typed typing ≡ true → after_taking d typing c e new ≡ new

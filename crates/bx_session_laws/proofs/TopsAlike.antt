@@ -152,18 +152,22 @@ module _ (d : Data) (fault : Option StoreFault) (s r : Session) (follows : Follo
   key_leaves None false is has same over = had
   key_leaves (Some key) true is has same over =
       let new = after_key d fault s.editor key in
-      let scroll = scroll_of s.editor key in
-      (refl, λ on. scrolled_to key same over on
-      ∙ ap (λ t. next_top d new (moved_top d new t scroll)) (sym (key_top d fault s.editor key))
-      ∙ sym (if_on new.ended new.top (next_top d new (moved_top d new new.top scroll)) on))
+      let scroll = scroll_of s.editor key in (
+        refl,
+        λ on. scrolled_to key same over on
+            ∙ ap (λ t. next_top d new (moved_top d new t scroll)) (sym (key_top d fault s.editor key))
+            ∙ sym (if_on new.ended new.top (next_top d new (moved_top d new new.top scroll)) on),
+      )
   key_leaves (Some key) false is has same over =
       let new = after_key d fault s.editor key in
       let needs : not (needs_no_painting s.editor key) ≡ false = sym (not_owed s.painting_owed (not (needs_no_painting s.editor key)) had.0) ∙ is in
       let none = not_not (needs_no_painting s.editor key) needs in
-      let looks = unseen d fault s.editor key none in
-      (had.0, λ on. scrolled_to key same over on
-      ∙ ap (λ scroll. next_top d new (moved_top d new s.editor.top scroll)) (unseen_scroll s.editor key follows.alone none)
-      ∙ looks.top s.editor.top ∙ stays has ∙ sym (key_top d fault s.editor key))
+      let looks = unseen d fault s.editor key none in (
+        had.0,
+        λ on. scrolled_to key same over on
+            ∙ ap (λ scroll. next_top d new (moved_top d new s.editor.top scroll)) (unseen_scroll s.editor key follows.alone none)
+            ∙ looks.top s.editor.top ∙ stays has ∙ sym (key_top d fault s.editor key),
+      )
 
 byte_at : (ended : Bool) (d : Data) (fault : Option StoreFault) (s r : Session) (b : ℕ) → ended ≡ false → Follows s r
     → s.editor.ended ≡ false → TopIs d s r.editor → HasRows s.editor → UnchangedAny fault s.editor (key_after s.rest b)

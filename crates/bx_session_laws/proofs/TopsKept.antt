@@ -1,5 +1,5 @@
 -- A key of a replay leaves the row that is shown first; only what scrolls behind it moves it.
-use Rattle.std.proofs.Common.{◌≡◌, Bool, true, false, not, ◌&&◌, Option, Some, None, refl, ap, ◌∙◌, if◌then◌else◌}
+use Rattle.std.proofs.Common.{◌≡◌, Bool, true, false, not, ◌&&◌, None, refl, ap, ◌∙◌, if◌then◌else◌}
 use Rattle.std.specs.Prelude.{is_some}
 use Rattle.bx_keys.specs.declared.key.Key.{Key}
 use Rattle.bx_keys.specs.declared.key.Key.TheVariants.{Quit, Save}
@@ -10,7 +10,6 @@ use Rattle.bx_editor.specs.declared.search_state.SearchState.{SearchState}
 use Rattle.bx_editor.specs.declared.search_state.SearchState.TheVariants.{Off, Begun, Typed, WithBegun, WithTyped, Replacing}
 use Rattle.bx_editor.specs.Editor.{Editor}
 use Rattle.bx_editor.specs.Putting.{paste_ended}
-use Rattle.bx_editor.specs.Replay.{after_passed_answer}
 use Rattle.bx_editor.specs.Saving.{with_answered_name, without_answer}
 use Rattle.bx_session.specs.Replaying.{after_passed, after_replayed, replayed_on}
 use Rattle.bx_session.proofs.KeySizes.{ended_top, key_top}

@@ -4,9 +4,9 @@ use Rattle.bx_ucd.specs.Data.{Data}
 use Rattle.bx_session.specs.declared.status.Refused.{Refused}
 use Rattle.bx_session.specs.declared.status.Refused.TheVariants.{Paint}
 use Rattle.bx_session.specs.declared.status.Status.{Status}
-use Rattle.bx_session.specs.Session.{StoreAfter, is_save_byte, store_state, text_to_save}
+use Rattle.bx_session.specs.Session.{Session, StoreAfter, is_save_byte, store_state, text_to_save}
 use Rattle.bx_session.specs.Feeding.{is_applied, SessionState}
-use Rattle.bx_session.proofs.Bytes.{after_byte_is, byte_appends, byte_paints, owing_is, quiet_is, unpainted_pending}
+use Rattle.bx_session.proofs.Bytes.{after_byte_is, byte_appends, byte_paints, not_idle, owing_is, quiet_is, refused_with, unpainted_pending}
 use Rattle.bx_session.proofs.session.Session.feed.Goals as goal
 
 pub returns-clause-after_byte : goal.returns-clause-after_byte
@@ -66,3 +66,25 @@ returns-in_err-paint_after-clause-after_byte g c =
       owing_is ucd h.0 s c.enter.new.self c.paint_after.new.self c.args.byte c.from_residual-in_err-paint_after.result
           (sym c.in_ok-prompts.ensures.prompts ∙ c.if-not-prompts.false) h.2 c.in_err-paint_after.ensures.err is,
     )
+
+pub returns-in_err-paint_after-clause-refused : goal.returns-in_err-paint_after-clause-refused
+returns-in_err-paint_after-clause-refused g c =
+    let ucd : g.row.D.Denot → Data = g.D.BidiData.data in
+    let s = c.args.self.now in
+    let h = c.in_ok-prompts.ensures.after_byte in
+    refused_with c.from_residual-in_err-paint_after.result
+    (ap (λ (x : Session). x.pending) c.in_err-paint_after.ensures.err
+    ∙ ap (λ (x : SessionState g.row.D.Denot). x.session.pending) h.2
+    ∙ unpainted_pending (ucd s.tables) h.0 s.session c.args.byte)
+
+pub returns-in_err-paint_after-clause-idle : goal.returns-in_err-paint_after-clause-idle
+returns-in_err-paint_after-clause-idle g c idle =
+    absurd (not_idle c.args.self.now.session c.args.byte (sym c.in_ok-prompts.ensures.prompts ∙ c.if-not-prompts.false) idle)
+
+pub returns-in_err-paint_after-clause-unchanged : goal.returns-in_err-paint_after-clause-unchanged
+returns-in_err-paint_after-clause-unchanged g c idle =
+    absurd (not_idle c.args.self.now.session c.args.byte (sym c.in_ok-prompts.ensures.prompts ∙ c.if-not-prompts.false) idle)
+
+pub returns-clause-unchanged : goal.returns-clause-unchanged
+returns-clause-unchanged g c idle =
+    absurd (not_idle c.args.self.now.session c.args.byte (sym c.in_ok-prompts.ensures.prompts ∙ c.if-not-prompts.false) idle)

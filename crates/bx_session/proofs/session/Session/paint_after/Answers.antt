@@ -1,13 +1,13 @@
-use Rattle.std.proofs.Common.{◌≡◌, ◌≤◌, ◌∙◌, ◌++◌, ℕ, List, Option, sym, ap, subst, drop, length, arith}
+use Rattle.std.proofs.Common.{◌≡◌, ◌≤◌, ◌∙◌, ◌++◌, ℕ, List, sym, ap, subst, drop, length, arith}
 use Rattle.std.proofs.lemmas.List.{length-append}
 use Rattle.bx_grid.specs.Picture.{PictureState}
 use Rattle.bx_ucd.specs.Data.{Data}
 use Rattle.bx_editor.specs.Editor.{Editor, with_top}
 use Rattle.bx_editor.specs.Functions.{EditorState}
 use Rattle.bx_editor.specs.Picture.{top_behind}
-use Rattle.bx_session.proofs.Pictures.{IsUnseen, picture_height, picture_width, longer_by_both, painting_is, painting_queues, painting_appends, then_clip_longer, value_of}
+use Rattle.bx_session.proofs.Pictures.{IsUnseen, fits_next, picture_height, picture_width, longer_by_both, painting_is, painting_queues, painting_appends, then_clip_longer, value_of}
 use Rattle.bx_session.specs.Painting.{text_in}
-use Rattle.bx_session.specs.Session.{Session, clip_after, painted_after, painting, then_clip}
+use Rattle.bx_session.specs.Session.{Session, clip_after, painted_after, painting}
 use Rattle.bx_session.specs.Feeding.{SessionState, known_if}
 use Rattle.bx_session.proofs.session.Session.paint_after.Goals as goal
 
@@ -27,6 +27,15 @@ invariant_of-self-2 g c =
         ap (λ (p : PictureState). p.width) c.in-Ok-picture.ensures.picture ∙ picture_width d e c.in-Ok-picture.top ∙ ap (λ (x : Editor). x.width) (sym same),
       ),
     )
+
+pub append_both-requires : goal.append_both-requires
+append_both-requires g c =
+    let d : Data = g.D.BidiData.data c.self.inside.editor.tables in
+    let e : Editor = c.self.inside.editor.editor in record {
+      fits = fits_next (known_if c.self.inside.is_known c.self.inside.painted) e c.in-Ok-picture.picture c.self.invariant.1
+          (ap (λ (p : PictureState). p.height) c.in-Ok-picture.ensures.picture ∙ picture_height d e c.in-Ok-picture.top)
+          (ap (λ (p : PictureState). p.width) c.in-Ok-picture.ensures.picture ∙ picture_width d e c.in-Ok-picture.top);
+    }
 
 pub returns-clause-ok : goal.returns-clause-ok
 returns-clause-ok g c =

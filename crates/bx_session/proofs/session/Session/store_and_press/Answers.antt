@@ -1,7 +1,6 @@
-use Rattle.std.proofs.Common.{rules, ◌≡◌, ◌∙◌, true, Option, None, Result, Err, Ok, refl, sym, ap, subst}
+use Rattle.std.proofs.Common.{◌∙◌}
 use Rattle.std.proofs.lemmas.Result.{on_ok_weaker}
 use Rattle.bx_ucd.specs.Data.{Data}
-use Rattle.bx_session.specs.declared.status.Refused.TheVariants.{Edit}
 use Rattle.bx_session.specs.Session.{StoreState, store_state, text_to_save}
 use Rattle.bx_session.specs.Feeding.{SessionState}
 use Rattle.bx_session.proofs.Bytes.{press_stored}
