@@ -25,7 +25,7 @@ use Rattle.bx_editor.specs.Scrolling.{scroll_of}
 use Rattle.bx_view.specs.Top.{follow}
 use Rattle.bx_session.specs.Session.{Session, after_spending, key_of_byte, session_after_key, clipboard_if}
 use Rattle.bx_session.specs.Replaying.{after_all_replayed, after_passed, at_replay_end, after_replay, after_replayed_key, session_after_replayed}
-use Rattle.bx_session.specs.Replaying.{moved_by, session_replayed_on, session_scrolled}
+use Rattle.bx_session.specs.Replaying.{moved_by, session_after_replayed_quit, session_replayed_on, session_scrolled}
 use Rattle.bx_session.specs.Painting.{QueuesPicture}
 use Rattle.bx_session.specs.Laws.{keys_from, after_journal, after_replaying}
 use Rattle.bx_session.specs.Beginning.{Beginning, IsBegun, after_going_to, changed_if, at_offset, opened, unpainted_at, begun}
@@ -126,10 +126,15 @@ other_stays d t prompt s key true =
     passed_stays t s (after_passed prompt key (paste_ended d s.editor)) (last.0 ∙ first.0) (last.1 ∙ first.1)
 other_stays d t prompt s key false = key_stays d t s key
 
+quit_stays : (d : Data) (t : Terminal) (prompt : Prompt) (search_state : SearchState) (s : Session)
+    → StaysKnown t s (session_after_replayed_quit d prompt search_state s)
+quit_stays d t prompts.Off Off s =
+    let size = (ended_goes_on d s.editor).1 in passed_stays t s (after_passed_quit (paste_ended d s.editor)) size.0 size.1
+quit_stays d t prompt search_state s = key_stays d t s Quit
+
 replayed_stays : (d : Data) (t : Terminal) (prompt : Prompt) (search_state : SearchState) (s : Session) (key : Key)
     → StaysKnown t s (session_after_replayed d prompt search_state s key)
-replayed_stays d t prompts.Off Off s Quit =
-    let size = (ended_goes_on d s.editor).1 in passed_stays t s (after_passed_quit (paste_ended d s.editor)) size.0 size.1
+replayed_stays d t prompt search_state s Quit = quit_stays d t prompt search_state s
 replayed_stays d t prompt search_state s key = other_stays d t prompt s key (is_some (saving_of s.editor key))
 
 any_stays : (d : Data) (t : Terminal) (s : Session) (key : Option Key) → StaysKnown t s (after_replayed_key d s key)
