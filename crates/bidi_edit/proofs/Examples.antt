@@ -2,16 +2,22 @@
 use Rattle.std.proofs.Common.{◌≡◌, ◌≢◌, ◌<◌, ◌++◌, ℕ, Bool, true, false, List, [], ◌∷◌, length, Option, Some, None, Result, Ok, Err, IsOk, IsUtf8}
 use Rattle.std.proofs.Common.{◌⊎◌, ⊎_elim, inl, inr, refl, sym, ap, subst, ◌∙◌, arith, if◌then◌else◌}
 use Rattle.std.specs.Global.{Vec}
-use Rattle.std.specs.Prelude.{◌&&◌, codes, get_or}
+use Rattle.std.specs.Prelude.{◌&&◌, codes, get_or, is_some, not}
 use Rattle.std.specs.Str.{chars, is_utf8}
 use Rattle.std.proofs.lemmas.Str.{is_utf8-from_IsUtf8}
 use Rattle.bx_common.specs.Characters.{largest_text}
+use Rattle.bx_editor.specs.Answering.{answer_of}
+use Rattle.bx_editor.specs.Editor.{Editor}
 use Rattle.bx_editor.specs.Functions.{has_changes}
+use Rattle.bx_editor.specs.Keys.{is_save, saving_by}
+use Rattle.bx_editor.specs.declared.questions.answers.Prompt.{Prompt}
+use Rattle.bx_editor.specs.declared.questions.answers.Prompt.TheVariants as prompts
 use Rattle.bx_editor.specs.declared.opening.OpenError.TheVariants.{TooLong, NotUtf8}
 use Rattle.bx_store.specs.declared.faults.Faults.{Faults}
 use Rattle.bx_ucd.specs.Data.{Data}
 use Rattle.bx_ucd.specs.declared.error.UcdError.{UcdError}
 use Rattle.bx_keys.specs.Keys.{key_after}
+use Rattle.bx_keys.specs.declared.key.Key.TheVariants.{Insert}
 use Rattle.bx_command.specs.declared.shared.unicode.UnicodeFiles.{UnicodeFiles}
 use Rattle.bx_session.specs.declared.action.Action.{Action}
 use Rattle.bx_session.specs.declared.end.End.{End}
@@ -21,7 +27,7 @@ use Rattle.bx_session.specs.declared.end.RunFault.TheVariants.{ReadFault, ReadLi
 use Rattle.bx_session.specs.declared.status.Refused.{Refused}
 use Rattle.bx_session.specs.declared.status.Status.{Status}
 use Rattle.bx_session.specs.declared.wired.Wired.{Wired}
-use Rattle.bx_session.specs.Session.{Session, with_painting, StoreAfter, StoreState, is_save_byte, is_save_key, store_state, text_to_save}
+use Rattle.bx_session.specs.Session.{Session, with_painting, StoreAfter, StoreState, is_save_byte, store_state, stores_by, text_to_save}
 use Rattle.bx_session.specs.Replaying.{after_journal}
 use Rattle.bx_session.specs.Feeding.{is_applied}
 use Rattle.bx_session.specs.Running.{ByteAnswer, EndsWith, FeedsAll}
@@ -171,9 +177,21 @@ begun_fresh d b none =
     subst (λ journal. let s = with_painting d (after_journal d (at_offset d b) journal) in (s.rest ≡ []) × (s.editor.ended ≡ false)) (sym none)
     (reads.0, (ended_goes_on d (at_offset d b).editor).0 ∙ reads.1)
 
+-- the letter x answers nothing that stores a text
+no_answer : (e : Editor) → stores_by e (Some (Insert 0x78)) ≡ false
+no_answer e = by (is_some e.pasted) e.prompt where
+  by : (pasting : Bool) (prompt : Prompt)
+      → is_some (if pasting && not (is_save (Insert 0x78)) then None else saving_by e prompt (Insert 0x78) (answer_of (Insert 0x78))) ≡ false
+  by true prompt = refl
+  by false prompts.File = refl
+  by false prompts.Overwrite = refl
+  by false prompt = refl
+
 no_save : (s : Session) → s.rest ≡ [] → s.editor.ended ≡ false → is_save_byte s 0x78 ≡ false
 no_save s fresh goes =
-    ap (λ ended. is_save_key (if ended then None else key_after s.rest 0x78)) goes ∙ ap (λ rest. is_save_key (key_after rest 0x78)) fresh
+    ap (λ ended. stores_by s.editor (if ended then None else key_after s.rest 0x78)) goes
+    ∙ ap (λ rest. stores_by s.editor (key_after rest 0x78)) fresh
+    ∙ no_answer s.editor
 
 neither : (applied : Bool) → (applied && false) ≡ false
 neither true = refl

@@ -1,8 +1,9 @@
 //! A full-screen editor: keys come from standard input, the screen goes to standard output.
 //!
 //! `bidi_edit [--rows N] [--cols N] [--direction auto|ltr|rtl] [--line N] [--text PATH | --new] [--unsaved] [--journal PATH]
-//! [--replay PATH [--to PATH [--against PATH]]] [--before TEXT] [--clipboard] [--frames [--saves REQUEST,ANSWER] [--erase XX]]
-//! --classes F --brackets F --mirroring F [--joining F --characters F] FILE`. `Options` of `bx_command` says what each option is for.
+//! [--replay PATH [--to PATH [--against PATH]]] [--before TEXT] [--clipboard] [--view] [--indent] [--spaces N] [--name NAME]
+//! [--frames [--saves REQUEST,ANSWER] [--erase XX]] --classes F --brackets F --mirroring F [--joining F --characters F] FILE`. `Options` of
+//! `bx_command` says what each option is for.
 //! With `--check` it only checks that FILE can be opened. Exit status 0: ended by Quit, or the input ended without unsaved changes,
 //! or FILE can be opened; 1: a fault, with a line on standard error; 2: the command line was refused, and standard error says why.
 //!

@@ -30,6 +30,15 @@ pub the_texts_that_it_knows : known_texts tables opened journal ≡ codes "ab" �
 unfolding unicode_segmentation unicode_width digits
 the_texts_that_it_knows = refl
 
+-- x, and the text is saved under the name n: SaveAs is CSI 103~, and a line end completes the answer; then y
+abbrev named : List ℕ
+named = 0x78 ∷ 0x1B ∷ 0x5B ∷ 0x31 ∷ 0x30 ∷ 0x33 ∷ 0x7E ∷ 0x6E ∷ 0x0A ∷ 0x79 ∷ []
+
+-- the opened text, and the one that the answer stored
+pub an_answer_stores_too : known_texts tables opened named ≡ codes "ab" ∷ codes "xab" ∷ []
+unfolding unicode_segmentation unicode_width digits
+an_answer_stores_too = refl
+
 -- ---- what is told of a file
 
 -- it is told to be the same only if it has the replayed text

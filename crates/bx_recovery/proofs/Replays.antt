@@ -6,7 +6,7 @@ use Rattle.bx_keys.specs.declared.key.Key.{Key}
 use Rattle.bx_keys.specs.Keys.{key_after, rest_after}
 use Rattle.bx_keys.specs.Waiting.{keys_from, head_of}
 use Rattle.bx_ucd.specs.Data.{Data}
-use Rattle.bx_session.specs.Session.{Session, key_of_byte, is_save_byte, is_save_key}
+use Rattle.bx_session.specs.Session.{Session, key_of_byte, is_save_byte}
 use Rattle.bx_session.specs.Feeding.{SessionState}
 use Rattle.bx_session.specs.Replaying.{after_journal, after_replay, after_replaying, at_replay_end}
 use Rattle.bx_session.proofs.Replayed.{applies, replayed_more}
@@ -64,23 +64,23 @@ met_at_first d s journal file known is = record {
 key_before_end : (s : Session) (b : ℕ) → s.editor.ended ≡ false → key_of_byte s b ≡ key_after s.rest b
 key_before_end s b h = ap (λ ended. if ended then None else key_after s.rest b) h
 
--- the replay of a byte may have met the text of a Save
-saved_now : (d : Data) (now new : Session) (file : List ℕ) (b : ℕ) (key : Option Key) (known known' : Bool) → key ≡ key_of_byte now b → new ≡ after_replay d now b
-    → (IsTrue known' ↔ (IsTrue known ⊎ ((is_save_key key ≡ true) × (new.editor.content.text ≡ file))))
+-- the replay of a byte may have met a text that was stored
+saved_now : (d : Data) (now new : Session) (file : List ℕ) (b : ℕ) (stores known known' : Bool) → stores ≡ is_save_byte now b → new ≡ after_replay d now b
+    → (IsTrue known' ↔ (IsTrue known ⊎ ((stores ≡ true) × (new.editor.content.text ≡ file))))
     → (IsTrue known' ↔ (IsTrue known ⊎ ((is_save_byte now b ≡ true) × ((after_replay d now b).editor.content.text ≡ file))))
-saved_now d now new file b key known known' completes is met =
+saved_now d now new file b stores known known' told is met =
     subst (λ (s : Session). IsTrue known' ↔ (IsTrue known ⊎ ((is_save_byte now b ≡ true) × (s.editor.content.text ≡ file)))) is
-    (subst (λ (k : Option Key). IsTrue known' ↔ (IsTrue known ⊎ ((is_save_key k ≡ true) × (new.editor.content.text ≡ file)))) completes met)
+    (subst (λ (saves : Bool). IsTrue known' ↔ (IsTrue known ⊎ ((saves ≡ true) × (new.editor.content.text ≡ file)))) told met)
 
-pub met_more : (d : Data) (old now new : Session) (journal rest file : List ℕ) (b : ℕ) (key : Option Key) (known known' : Bool) (count count' : ℕ)
-    → HasMet d old now journal (b ∷ rest) file known count → key ≡ key_of_byte now b
-    → (IsTrue known' ↔ (IsTrue known ⊎ ((is_save_key key ≡ true) × (new.editor.content.text ≡ file))))
+pub met_more : (d : Data) (old now new : Session) (journal rest file : List ℕ) (b : ℕ) (key : Option Key) (stores known known' : Bool) (count count' : ℕ)
+    → HasMet d old now journal (b ∷ rest) file known count → key ≡ key_of_byte now b → stores ≡ is_save_byte now b
+    → (IsTrue known' ↔ (IsTrue known ⊎ ((stores ≡ true) × (new.editor.content.text ≡ file))))
     → count' ≡ count + length (option_to_list key) → new ≡ after_replay d now b
     → HasMet d old new journal rest file known' count'
-met_more d old now new journal rest file b key known known' count count' was completes met_by counted_by is =
+met_more d old now new journal rest file b key stores known known' count count' was completes told met_by counted_by is =
     let save = is_save_byte now b in
     let text = (after_replay d now b).editor.content.text in
-    let met = saved_now d now new file b key known known' completes is met_by in
+    let met = saved_now d now new file b stores known known' told is met_by in
     let counted : count' ≡ count + length (option_to_list (key_of_byte now b)) =
     counted_by ∙ ap (λ (k : Option Key). count + length (option_to_list k)) completes in
     let later : List (List ℕ) = texts_at_saves d (after_replay d now b) rest in

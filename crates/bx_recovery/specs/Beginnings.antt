@@ -4,9 +4,9 @@ use Rattle.std.specs.Global.{Vec}
 use Rattle.std.specs.Prelude.{◌≡◌, ℕ, List, [], Option, Some, None, option_map, vec_items}
 use Rattle.bx_ucd.specs.Data.{Data}
 use Rattle.bx_command.specs.Lines.{start_of_line}
-use Rattle.bx_session.specs.Session.{Session, at_opening}
+use Rattle.bx_session.specs.Session.{Session}
 use Rattle.bx_session.specs.Painting.{QueuesPicture}
-use Rattle.bx_session.specs.Beginning.{Beginning, at_offset}
+use Rattle.bx_session.specs.Beginning.{Beginning, at_offset, opened}
 use Rattle.bx_recovery.specs.declared.beginning.Beginning as given
 
 -- a file that does not exist is an empty text
@@ -25,6 +25,7 @@ beginning_of b = record {
   height = b.rows;
   width = b.cols;
   base = b.direction;
+  settings = b.settings;
   clipboard = b.clipboard;
   offset = offset_of (bytes_of b.text) b.line;
   unsaved = b.unsaved;
@@ -34,4 +35,4 @@ beginning_of b = record {
 -- the session is opened from this start; its journal is not replayed yet
 pub record IsOpened (d : Data) (b : Beginning) (s : Session) : Type 0 where
   pub session : s ≡ at_offset d b
-  pub paints : QueuesPicture d [] None (at_opening d b.text b.height b.width b.base)
+  pub paints : QueuesPicture d [] None (opened d b)

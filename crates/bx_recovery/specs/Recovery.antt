@@ -7,7 +7,7 @@ use Rattle.bx_ucd.specs.Data.{Data}
 use Rattle.bx_keys.specs.Waiting.{keys_from}
 use Rattle.bx_command.specs.shared.Tables.{AreOfFiles}
 use Rattle.bx_command.specs.declared.shared.unicode.UnicodeFiles.{UnicodeFiles}
-use Rattle.bx_session.specs.Session.{Session, StoreState, is_save_key, key_of_byte, with_text}
+use Rattle.bx_session.specs.Session.{Session, StoreState, is_save_byte, with_text}
 use Rattle.bx_session.specs.Replaying.{after_journal, after_replay}
 use Rattle.bx_session.specs.Beginning.{Beginning, at_offset, unpainted_at}
 use Rattle.bx_recovery.specs.declared.replaying.FileText.{FileText}
@@ -19,13 +19,14 @@ abbrev pub with_text_if : Bool → List ℕ → List (List ℕ) → List (List �
 with_text_if true text texts = text ∷ texts
 with_text_if false text texts = texts
 
--- the text at each Save of a journal, in order, once a paste has ended there: each of them was stored, unless its save failed
+-- the text at each key of a journal that stores it, in order, once a paste has ended there: each of them was stored, unless its save
+-- failed
 abbrev pub texts_at_saves : Data → Session → List ℕ → List (List ℕ)
 texts_at_saves d s [] = []
 texts_at_saves d s (b ∷ bytes) =
-    let new = after_replay d s b in with_text_if (is_save_key (key_of_byte s b)) new.editor.content.text (texts_at_saves d new bytes)
+    let new = after_replay d s b in with_text_if (is_save_byte s b) new.editor.content.text (texts_at_saves d new bytes)
 
--- the texts that the session knows of its file: the text at the start of a journal, and the text at each Save
+-- the texts that the session knows of its file: the text at the start of a journal, and the text at each key that stores it
 abbrev pub known_texts : Data → Session → List ℕ → List (List ℕ)
 known_texts d s journal = s.editor.content.text ∷ texts_at_saves d s journal
 

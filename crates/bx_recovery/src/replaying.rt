@@ -3,9 +3,7 @@
 ghost use Rattle.std.specs.Prelude.{◌≡◌, ◌<◌, ◌+◌, ◌-◌, ◌⊎◌, ◌↔◌, ◌^◌, IfOk, OnErr, OnOk, IsTrue, IsFalse, true, false, length};
 ghost use Rattle.std.specs.Prelude.{option_to_list};
 ghost use Rattle.bx_keys.specs.Waiting.{keys_from};
-ghost use Rattle.bx_editor.specs.Keys as keys;
 ghost use Rattle.bx_session.specs.Laws.{after_journal};
-ghost use Rattle.bx_session.specs.Session.{is_save_key};
 ghost use Rattle.bx_recovery.specs.Recovery.{HoldsBeside};
 
 use crate::fault::RecoveryFault;
@@ -19,7 +17,7 @@ use std::fmt;
 pub enum FileText {
     /// The replayed text.
     Same,
-    /// The opened text, or the text at a Save in the journal.
+    /// The opened text, or the text at a key of the journal that stores it: a Save, or an answer.
     Known,
     /// Another text, as of another program.
     Foreign,
@@ -68,41 +66,36 @@ pub fn replay<D: BidiData + Drop>(
 /// What a replay has met so far.
 #[derive(Clone, Copy)]
 struct Met {
-    /// Whether the file is the text at the start or at a Save.
+    /// Whether the file is the text at the start or at a key that stores it.
     is_known: bool,
     /// The number of whole keys in the bytes so far.
     keys: u64,
 }
 
-/// Whether a key is Save.
-fn is_save(key: Key) -> bool
-    ensures { result ≡ keys.is_save key }
-{
-    matches!(key, Key::Save)
-}
-
-/// What a replay has met once it took a byte, which completed this key, if any, and led to `session`.
+/// What a replay has met once it took a byte, which completed this key, if any, and led to `session`. `stores`: the key stores the text.
 fn met_with<D: BidiData + Drop>(
     met: Met,
     session: &Session<D>,
     key: Option<Key>,
+    stores: bool,
     file: &[u8],
 ) -> Met
     requires { met.keys < 2 ^ 64 - 1 }
     ensures known { IsTrue result.is_known ↔ (IsTrue met.is_known
-        ⊎ ((is_save_key key ≡ true) × (session.now.session.editor.content.text ≡ file.now))) }
+        ⊎ ((stores ≡ true) × (session.now.session.editor.content.text ≡ file.now))) }
     ensures keys { result.keys ≡ met.keys + length (option_to_list key) }
 {
-    let Some(key) = key else {
-        return met;
+    let keys = match key {
+        Some(_) => met.keys + 1,
+        None => met.keys,
     };
     Met {
-        is_known: met.is_known || (is_save(key) && session.has_text(file)),
-        keys: met.keys + 1,
+        is_known: met.is_known || (stores && session.has_text(file)),
+        keys,
     }
 }
 
-/// What a file holds: `is_same` if it is the replayed text, `is_known` if it is the text at the start or at a Save.
+/// What a file holds: `is_same` if it is the replayed text, `is_known` if it is the text at the start or at a key that stores it.
 fn held_by(is_same: bool, is_known: bool) -> FileText
     ensures same { IsTrue is_same → result ≡ FileText.Same }
     ensures known { IsFalse is_same → IsTrue is_known → result ≡ FileText.Known }
@@ -117,8 +110,8 @@ fn held_by(is_same: bool, is_known: bool) -> FileText
     }
 }
 
-/// Replays the bytes `keys` of a journal over a text, and compares a file's bytes with the text at the start, at each Save and at
-/// the end.
+/// Replays the bytes `keys` of a journal over a text, and compares a file's bytes with the text at the start, at each key that stores
+/// it and at the end.
 ///
 /// Errors: `OutOfMemory`, as in [`replay`].
 pub fn replay_beside<D: BidiData + Drop>(
@@ -140,8 +133,9 @@ pub fn replay_beside<D: BidiData + Drop>(
     };
     for byte in keys {
         let key = session.key_of(*byte);
+        let stores = session.stores(*byte);
         session.replay(*byte)?;
-        met = met_with(met, session, key, file);
+        met = met_with(met, session, key, stores, file);
     }
     session.end_replay()?;
     Ok(Replayed {

@@ -1,33 +1,38 @@
 -- A session that begins a run is in step with its terminal: the painting that it owed made it so.
 use Rattle.std.proofs.Common.{◌≡◌, ℕ, Bool, true, false, List, [], ◌∷◌, Option, Some, None}
 use Rattle.std.proofs.Common.{refl, sym, ap, subst, ◌∙◌, if◌then◌else◌}
-use Rattle.std.specs.Prelude.{IfSome, ◌==◌, ◌&&◌}
+use Rattle.std.specs.Prelude.{IfSome, ◌==◌, ◌&&◌, is_some, not}
 use Rattle.bx_keys.specs.declared.key.Key.{Key}
-use Rattle.bx_keys.specs.declared.key.Key.TheVariants.{Quit}
+use Rattle.bx_keys.specs.declared.key.Key.TheVariants.{Quit, Save}
 use Rattle.bx_keys.specs.Keys.{rest_after}
 use Rattle.bx_keys.specs.Waiting.{head_of}
 use Rattle.bx_grid.specs.Picture.{PictureState, IsIdle, Shows}
 use Rattle.bx_grid.specs.Terminal.{Terminal, reads}
 use Rattle.bx_ucd.specs.Data.{Data}
-use Rattle.bx_editor.specs.Editor.{Editor}
+use Rattle.bx_editor.specs.Editor.{Editor, rows, text_height, with_top}
 use Rattle.bx_editor.specs.declared.questions.answers.Prompt.{Prompt}
 use Rattle.bx_editor.specs.declared.questions.answers.Prompt.TheVariants as prompts
 use Rattle.bx_editor.specs.declared.search_state.SearchState.{SearchState}
-use Rattle.bx_editor.specs.declared.search_state.SearchState.TheVariants.{Off, Begun, Typed, WithBegun, WithTyped, Replacing}
+use Rattle.bx_editor.specs.declared.search_state.SearchState.TheVariants.{Off}
+use Rattle.bx_editor.specs.declared.scrolling.Scroll.TheVariants.{Least}
+use Rattle.bx_editor.specs.Keys.{saving_of}
 use Rattle.bx_editor.specs.Putting.{paste_ended}
 use Rattle.bx_editor.specs.Replay.{after_passed_quit, after_passed_save}
+use Rattle.bx_editor.specs.Saving.{with_answered_name, without_answer}
 use Rattle.bx_editor.specs.Replay as replay
-use Rattle.bx_editor.specs.Picture.{scrolled}
-use Rattle.bx_session.specs.Session.{Session, at_opening, after_spending, key_of_byte, session_after_key, clipboard_if}
-use Rattle.bx_session.specs.Replaying.{after_all_replayed, at_replay_end, after_replay, after_replayed_key, session_after_replayed}
-use Rattle.bx_session.specs.Replaying.{session_replayed_on, session_scrolled}
+use Rattle.bx_editor.specs.Picture.{scrolled, scrolled_by}
+use Rattle.bx_editor.specs.Scrolling.{scroll_of}
+use Rattle.bx_view.specs.Top.{follow}
+use Rattle.bx_session.specs.Session.{Session, after_spending, key_of_byte, session_after_key, clipboard_if}
+use Rattle.bx_session.specs.Replaying.{after_all_replayed, after_passed, at_replay_end, after_replay, after_replayed_key, session_after_replayed}
+use Rattle.bx_session.specs.Replaying.{moved_by, session_after_replayed_quit, session_replayed_on, session_scrolled}
 use Rattle.bx_session.specs.Painting.{QueuesPicture}
 use Rattle.bx_session.specs.Laws.{keys_from, after_journal, after_replaying}
-use Rattle.bx_session.specs.Beginning.{Beginning, IsBegun, after_going_to, changed_if, at_offset, unpainted_at, begun}
+use Rattle.bx_session.specs.Beginning.{Beginning, IsBegun, after_going_to, changed_if, at_offset, opened, unpainted_at, begun}
 use Rattle.bx_session.proofs.Input.{keys_of_input}
-use Rattle.bx_session.proofs.KeySizes.{ended_goes_on}
+use Rattle.bx_session.proofs.KeySizes.{SameSize, ended_goes_on}
 use Rattle.bx_session.proofs.Pictures.{picture_height, picture_width}
-use Rattle.bx_session.proofs.Replayed.{each-session, replays_keys, rest_from, replayed_rest}
+use Rattle.bx_session.proofs.Replayed.{replays_keys, rest_from, replayed_rest}
 use Rattle.bx_world.specs.Showing.{FitsWindow, IsInStep, picture_of}
 use Rattle.bx_world.specs.Runs.{begins_at}
 use Rattle.bx_world.specs.Laws.{BeginsWithKeys}
@@ -103,30 +108,44 @@ passed_stays t s e height width = record {
       (ap (λ h. (t.height == h) && (t.width == s.editor.width)) (sym height) ∙ ap (λ w. (t.height == e.height) && (t.width == w)) (sym width) ∙ on);
 }
 
-quit_stays : (d : Data) (t : Terminal) (prompt : Prompt) (search_state : SearchState) (s : Session) → StaysKnown t s (session_after_replayed d prompt search_state s Quit)
+-- keeps the window's size
+answer_size : (named : Bool) (e : Editor) → SameSize e (after_passed_save (if named then with_answered_name e else without_answer e))
+answer_size true e = (refl, refl)
+answer_size false e = (refl, refl)
+
+passed_size : (prompt : Prompt) (key : Key) (e : Editor) → SameSize e (after_passed prompt key e)
+passed_size prompts.File Save e = (refl, refl)
+passed_size prompts.File key e = answer_size (is_some e.name && not e.home) e
+passed_size prompt key e = (refl, refl)
+
+other_stays : (d : Data) (t : Terminal) (prompt : Prompt) (s : Session) (key : Key) (saves : Bool)
+    → StaysKnown t s (if saves then record s { editor = after_passed prompt key (paste_ended d s.editor) } else session_after_key d None s key)
+other_stays d t prompt s key true =
+    let first = (ended_goes_on d s.editor).1 in
+    let last = passed_size prompt key (paste_ended d s.editor) in
+    passed_stays t s (after_passed prompt key (paste_ended d s.editor)) (last.0 ∙ first.0) (last.1 ∙ first.1)
+other_stays d t prompt s key false = key_stays d t s key
+
+quit_stays : (d : Data) (t : Terminal) (prompt : Prompt) (search_state : SearchState) (s : Session)
+    → StaysKnown t s (session_after_replayed_quit d prompt search_state s)
 quit_stays d t prompts.Off Off s =
     let size = (ended_goes_on d s.editor).1 in passed_stays t s (after_passed_quit (paste_ended d s.editor)) size.0 size.1
-quit_stays d t prompts.Off Begun s = key_stays d t s Quit
-quit_stays d t prompts.Off Typed s = key_stays d t s Quit
-quit_stays d t prompts.Off WithBegun s = key_stays d t s Quit
-quit_stays d t prompts.Off WithTyped s = key_stays d t s Quit
-quit_stays d t prompts.Off Replacing s = key_stays d t s Quit
-quit_stays d t prompts.Line search_state s = key_stays d t s Quit
-quit_stays d t prompts.Name search_state s = key_stays d t s Quit
-quit_stays d t prompts.Code search_state s = key_stays d t s Quit
+quit_stays d t prompt search_state s = key_stays d t s Quit
 
-replayed_stays : (d : Data) (t : Terminal) (prompt : Prompt) (search_state : SearchState) (s : Session) (key : Key) → StaysKnown t s (session_after_replayed d prompt search_state s key)
-replayed_stays d t prompt search_state s =
-    let size = (ended_goes_on d s.editor).1 in
-    each-session d prompt search_state s (λ key new. StaysKnown t s new) (passed_stays t s (after_passed_save (paste_ended d s.editor)) size.0 size.1)
-    (quit_stays d t prompt search_state s) (λ key other. key_stays d t s key)
+replayed_stays : (d : Data) (t : Terminal) (prompt : Prompt) (search_state : SearchState) (s : Session) (key : Key)
+    → StaysKnown t s (session_after_replayed d prompt search_state s key)
+replayed_stays d t prompt search_state s Quit = quit_stays d t prompt search_state s
+replayed_stays d t prompt search_state s key = other_stays d t prompt s key (is_some (saving_of s.editor key))
 
 any_stays : (d : Data) (t : Terminal) (s : Session) (key : Option Key) → StaysKnown t s (after_replayed_key d s key)
 any_stays d t s None = stays_at t s
 any_stays d t s (Some key) =
     let from : Session = session_scrolled d s in
     let over : Editor = paste_ended d from.editor in
-    stays_on t s from (session_replayed_on d from key) (passed_stays t s (scrolled d s.editor) refl refl) (replayed_stays d t over.prompt over.search_state from key)
+    let new : Session = session_replayed_on d from key in
+    stays_on t s new (after_replayed_key d s (Some key))
+    (stays_on t s from new (passed_stays t s (scrolled d s.editor) refl refl) (replayed_stays d t over.prompt over.search_state from key))
+    (passed_stays t new (moved_by d (scroll_of s.editor key) new.editor) refl refl)
 
 byte_stays : (d : Data) (t : Terminal) (s : Session) (b : ℕ) → StaysKnown t s (after_replay d s b)
 byte_stays d t s b =
@@ -161,9 +180,9 @@ changed_stays : (unsaved : Bool) (t : Terminal) (s : Session) → StaysKnown t s
 changed_stays false t s = stays_at t s
 changed_stays true t s = record { pending = refl; known = known_at (fits t.height t.width s.editor) s.known }
 
-offset_stays : (d : Data) (t : Terminal) (b : Beginning) → StaysKnown t (at_opening d b.text b.height b.width b.base) (at_offset d b)
+offset_stays : (d : Data) (t : Terminal) (b : Beginning) → StaysKnown t (opened d b) (at_offset d b)
 offset_stays d t b =
-    let s : Session = at_opening d b.text b.height b.width b.base in
+    let s : Session = opened d b in
     let first : Session = clipboard_if b.clipboard s in
     let there : Session = after_going_to d first b.offset in
     stays_on t s first (at_offset d b) (clipboard_stays b.clipboard t s)
@@ -173,7 +192,7 @@ offset_stays d t b =
 
 pub begun_at : (d : Data) (b : Beginning) (t : Terminal) → IsIdle t → IsBegun d b → IsInStep d (begins_at (begun d b) t)
 begun_at d b t idle begins =
-    let s : Session = at_opening d b.text b.height b.width b.base in
+    let s : Session = opened d b in
     let stays : StaysKnown t s (unpainted_at d b) =
     stays_on t s (at_offset d b) (unpainted_at d b) (offset_stays d t b) (journal_stays d t (at_offset d b) b.journal) in
     painted d (begins_at s t) (begun d b) (fits t.height t.width (begun d b).editor) (unpainted_at d b).known (opened_at d s t idle begins.opened)
@@ -208,13 +227,13 @@ changed_rest false s = refl
 
 offset_goes_on : (d : Data) (b : Beginning) → (at_offset d b).editor.ended ≡ false
 offset_goes_on d b =
-    let s : Session = at_opening d b.text b.height b.width b.base in
+    let s : Session = opened d b in
     let first : Session = clipboard_if b.clipboard s in
     changed_goes_on b.unsaved (after_going_to d first b.offset) (going_goes_on d first b.offset (clipboard_goes_on b.clipboard s refl))
 
 offset_rest : (d : Data) (b : Beginning) → (at_offset d b).rest ≡ []
 offset_rest d b =
-    let s : Session = at_opening d b.text b.height b.width b.base in
+    let s : Session = opened d b in
     let first : Session = clipboard_if b.clipboard s in
     changed_rest b.unsaved (after_going_to d first b.offset) ∙ going_rest d first b.offset ∙ clipboard_rest b.clipboard s
 
@@ -222,10 +241,17 @@ pub begun_rest : (d : Data) (b : Beginning) → (begun d b).rest ≡ rest_from [
 begun_rest d b =
     replayed_rest d (at_offset d b) b.journal (offset_goes_on d b) ∙ ap (λ rest. rest_from rest b.journal) (offset_rest d b)
 
+-- a painting without a key scrolls to the cursor alone
+least_is : (d : Data) (e : Editor) → scrolled_by d Least e ≡ scrolled d e
+least_is d e = ap (with_top e) (by e.ended (follow (rows d e) e.top e.place (text_height e.height))) where
+  by : (ended : Bool) (other : ℕ) → (if ended then e.top else (if ended then e.top else other)) ≡ (if ended then e.top else other)
+  by true other = refl
+  by false other = refl
+
 pub begins_with_keys : BeginsWithKeys
 begins_with_keys = record {
   replayed = λ d b. ap (λ (e : Editor). scrolled d (replay.at_replay_end (paste_ended d e)))
       (replays_keys d (at_offset d b) b.journal (offset_goes_on d b)
       ∙ ap (after_all_replayed d (at_offset d b).editor) (ap (λ rest. keys_from rest b.journal) (offset_rest d b) ∙ keys_of_input b.journal));
-  painted = λ d b. refl;
+  painted = λ d b. least_is d (unpainted_at d b).editor;
 }

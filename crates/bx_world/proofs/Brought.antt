@@ -13,12 +13,13 @@ use Rattle.bx_store.specs.Faults.{greatest}
 use Rattle.bx_store.specs.declared.faults.Faults.{Faults}
 use Rattle.bx_store.specs.declared.store.StoreFault.{StoreFault}
 use Rattle.bx_ucd.specs.Data.{Data}
-use Rattle.bx_view.specs.Top.{follow}
-use Rattle.bx_editor.specs.Editor.{Editor, rows, text_height, with_top}
+use Rattle.bx_editor.specs.Editor.{Editor, with_top}
+use Rattle.bx_editor.specs.declared.scrolling.Scroll.{Scroll}
 use Rattle.bx_session.specs.declared.status.Refused.TheVariants as refused
 use Rattle.bx_session.specs.Session.{Session, key_of_byte, after_spending, session_after_any, unpainted_after_byte, painted_after}
-use Rattle.bx_editor.specs.Picture.{scrolled}
-use Rattle.bx_session.specs.Session.{is_painted, after_byte, StoreState, StoreAfter, is_save_key, is_save_byte, text_to_save}
+use Rattle.bx_editor.specs.Picture.{next_top, scrolled_by}
+use Rattle.bx_editor.specs.Scrolling.{moved_top}
+use Rattle.bx_session.specs.Session.{is_painted, after_byte, scroll_behind, StoreState, StoreAfter, stores_by, is_save_byte, text_to_save}
 use Rattle.bx_session.specs.Laws.{keys_from}
 use Rattle.bx_session.proofs.Input.{keys_of_input}
 use Rattle.bx_session.proofs.Replayed.{rest_from, keys_from_both}
@@ -76,7 +77,8 @@ decoded_behind journal events are front back is =
 
 -- what a byte leaves of the editor, of what waits, and of the painting that is owed
 pub record IsFed (d : Data) (answer : Result (Unit {0}) StepFault) (fault : Option StoreFault) (s : Session) (b : ℕ) (new : Session) : Type 0 where
-  pub editor : new.editor ≡ painted_if (is_ok answer && is_painted s b) d (after_input d (is_applied answer) fault s.editor (key_of_byte s b))
+  pub editor : new.editor ≡ painted_if (is_ok answer && is_painted s b) d (scroll_behind s.editor (key_of_byte s b))
+      (after_input d (is_applied answer) fault s.editor (key_of_byte s b))
   pub rest : new.rest ≡ (after_spending s b).rest
   pub owed : new.painting_owed ≡ owed_by s.painting_owed answer
 
@@ -106,12 +108,15 @@ painted_fed d fault s b = record { editor = by_editor (is_painted s b); rest = b
   u : Session
   u = unpainted_after_byte d fault s b
 
-  by_editor : (paints : Bool) → (if paints then painted_after d u (key_of_byte s b) else u).editor
-      ≡ painted_if paints d (after_input d true fault s.editor (key_of_byte s b))
-  by_editor true = ap (scrolled d) (unpainted_editor d fault s b)
+  scroll : Scroll
+  scroll = scroll_behind s.editor (key_of_byte s b)
+
+  by_editor : (paints : Bool) → (if paints then painted_after d scroll u (key_of_byte s b) else u).editor
+      ≡ painted_if paints d scroll (after_input d true fault s.editor (key_of_byte s b))
+  by_editor true = ap (scrolled_by d scroll) (unpainted_editor d fault s b)
   by_editor false = unpainted_editor d fault s b
 
-  by_rest : (paints : Bool) → (if paints then painted_after d u (key_of_byte s b) else u).rest ≡ (after_spending s b).rest
+  by_rest : (paints : Bool) → (if paints then painted_after d scroll u (key_of_byte s b) else u).rest ≡ (after_spending s b).rest
   by_rest true = unpainted_rest d fault s b
   by_rest false = unpainted_rest d fault s b
 
@@ -135,9 +140,9 @@ byte_fed d fault old new b (Err (faults.Screen _)) is = absurd is
 byte_fed d fault old new b (Err faults.Line) is = absurd is
 
 -- after the end a painting scrolls no more
-ended_top : (painted : Bool) (d : Data) (e : Editor) → e.ended ≡ true → painted_if painted d e ≡ e
-ended_top false d e on = refl
-ended_top true d e on = ap (with_top e) (same e.ended (follow (rows d e) e.top e.place (text_height e.height)) on) where
+ended_top : (painted : Bool) (d : Data) (scroll : Scroll) (e : Editor) → e.ended ≡ true → painted_if painted d scroll e ≡ e
+ended_top false d scroll e on = refl
+ended_top true d scroll e on = ap (with_top e) (same e.ended (next_top d e (moved_top d e e.top scroll)) on) where
   same : (ended : Bool) (other : ℕ) → ended ≡ true → (if ended then e.top else other) ≡ e.top
   same true other is = refl
   same false other is = absurd (cc is)
@@ -188,16 +193,17 @@ byte_brings : (ended : Bool) (d : Data) (fault : Option StoreFault) (old new : W
     → IsFed d answer fault old.session b new.session → StepBrings d old new store store' (Byte b) answer
 byte_brings true d fault old new store store' b answer on stores fed =
     let s = old.session in
+    let scroll : Scroll = scroll_behind s.editor (key_of_byte s b) in
     let none : key_of_byte s b ≡ None = key_if s.editor.ended (key_after s.rest b) on in
     let same : new.session.rest ≡ s.rest = fed.rest ∙ rest_if s.editor.ended s (head_of (rest_after s.rest b)) on in record {
       first = [];
       brings = subst (λ ended. BringsByte ended s.painting_owed s.editor b answer []) (sym on) refl;
       owed = fed.owed;
       editor = fed.editor
-          ∙ ap (λ key. painted_if (is_ok answer && is_painted s b) d (after_input d (is_applied answer) fault s.editor key)) none
-          ∙ ended_top (is_ok answer && is_painted s b) d s.editor on;
+          ∙ ap (λ key. painted_if (is_ok answer && is_painted s b) d scroll (after_input d (is_applied answer) fault s.editor key)) none
+          ∙ ended_top (is_ok answer && is_painted s b) d scroll s.editor on;
       stored = subst (λ saves. StoreAfter saves fault (text_to_save d s.editor) store store')
-          (ap (λ key. is_applied answer && is_save_key key) none ∙ neither (is_applied answer)) stores;
+          (ap (λ key. is_applied answer && stores_by s.editor key) none ∙ neither (is_applied answer)) stores;
       decoded = λ others are. subst (λ rest. AreDecoded rest others) same are;
     }
 byte_brings false d fault old new store store' b answer off stores fed =
@@ -210,7 +216,7 @@ byte_brings false d fault old new store store' b answer off stores fed =
           (sym off) (key, fault, refl);
       owed = fed.owed;
       editor = fed.editor;
-      stored = store_is (is_applied answer && is_save_key key) fault (text_to_save d s.editor) store store' stores;
+      stored = store_is (is_applied answer && stores_by s.editor key) fault (text_to_save d s.editor) store store' stores;
       decoded = λ others are. (
         key_if_not s.editor.ended (key_after s.rest b) off,
         subst (λ rest. AreDecoded rest others) next are,
@@ -364,24 +370,24 @@ below g n k now low is = by (cases_lt g (suc n)) where
   by (inr fits) = let one : min g (suc n) ≡ suc n = min-eq_right fits in omega (arith, one, is)
 
 failed_are : (d : Data) (e : Editor) (store : StoreState) (events : List Event) → (stored_after_all d e store events).faults.count < greatest
-    → (stored_after_all d e store events).faults.count ≡ store.faults.count + failed_saves events
+    → (stored_after_all d e store events).faults.count ≡ store.faults.count + failed_saves d e events
 failed_are d e store [] low = omega arith
 failed_are d e store (Telling height width painted ∷ more) low = failed_are d (after_event d e (Telling height width painted)) store more low
 failed_are d e store (Input byte key applied fault painted ∷ more) low =
-    by_save (applied && is_save_key key) fault (λ (now : StoreState). failed_are d next now more) low where
+    by_save (applied && stores_by e key) fault (λ (now : StoreState). failed_are d next now more) low where
       next : Editor
       next = after_event d e (Input byte key applied fault painted)
 
       by_save : (saves : Bool) (fault : Option StoreFault)
           → ((now : StoreState) → (stored_after_all d next now more).faults.count < greatest
-          → (stored_after_all d next now more).faults.count ≡ now.faults.count + failed_saves more)
+          → (stored_after_all d next now more).faults.count ≡ now.faults.count + failed_saves d next more)
           → (stored_after_all d next (if saves then after_save_of (text_to_save d e) fault store else store) more).faults.count < greatest
           → (stored_after_all d next (if saves then after_save_of (text_to_save d e) fault store else store) more).faults.count
-          ≡ store.faults.count + (if saves && is_some fault then suc (failed_saves more) else failed_saves more)
+          ≡ store.faults.count + (if saves && is_some fault then suc (failed_saves d next more) else failed_saves d next more)
       by_save true None others low = others (after_save_of (text_to_save d e) None store) low
       by_save true (Some failed) others low =
           let count = others (after_save_of (text_to_save d e) (Some failed) store) low in
-          below greatest store.faults.count (failed_saves more) _ (subst (λ n. n < greatest) count low) count
+          below greatest store.faults.count (failed_saves d next more) _ (subst (λ n. n < greatest) count low) count
       by_save false fault others low = others store low
 
 pub follows_decoded : (d : Data) (old new : World) (store store' : StoreState) (all : List (Step × Result (Unit {0}) StepFault))
@@ -389,8 +395,8 @@ pub follows_decoded : (d : Data) (old new : World) (store store' : StoreState) (
 follows_decoded d old new store store' all played =
     let b = brought d old new store store' all played in
     let i = has_input d old.session.painting_owed old.session.editor all b.events b.events_are in
-    let failures : store'.faults.count < greatest → store'.faults.count ≡ store.faults.count + failed_saves b.events =
-    subst (λ (x : StoreState). x.faults.count < greatest → x.faults.count ≡ store.faults.count + failed_saves b.events) (sym b.stored)
+    let failures : store'.faults.count < greatest → store'.faults.count ≡ store.faults.count + failed_saves d old.session.editor b.events =
+    subst (λ (x : StoreState). x.faults.count < greatest → x.faults.count ≡ store.faults.count + failed_saves d old.session.editor b.events) (sym b.stored)
     (failed_are d old.session.editor store b.events) in (
       b.events,
       record {

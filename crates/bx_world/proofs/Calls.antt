@@ -12,24 +12,26 @@ use Rattle.bx_store.specs.declared.store.StoreFault.{StoreFault}
 use Rattle.bx_ucd.specs.Data.{Data}
 use Rattle.bx_editor.specs.Editor.{Editor}
 use Rattle.bx_editor.specs.Picture.{StandsOnItsCell}
+use Rattle.bx_editor.specs.Settings.{SettingsState}
+use Rattle.bx_editor.specs.declared.scrolling.Scroll.{Scroll}
 use Rattle.bx_session.specs.declared.status.Refused.{Refused}
 use Rattle.bx_session.specs.declared.status.Refused.TheVariants as refused
 use Rattle.bx_session.specs.declared.status.Status.{Status}
 use Rattle.bx_session.specs.Session.{Session, at_opening, after_spending, after_byte, owing_after_byte, is_painted, unpainted_after_byte}
 use Rattle.bx_session.specs.Session.{painted_after, key_of_byte, needs_painting, owing_after_told, after_sending, with_clipboard}
-use Rattle.bx_session.specs.Session.{StoreState, StoreAfter, is_save_byte, text_to_save}
+use Rattle.bx_session.specs.Session.{StoreState, StoreAfter, is_save_byte, scroll_behind, text_to_save, with_settings}
 use Rattle.bx_session.specs.Feeding.{SessionState, Feeds, ToldBy}
 use Rattle.bx_session.specs.Painting.{QueuesPicture, FeedPaints, ToldPaints}
 use Rattle.bx_session.proofs.Quiet.{quiet_byte, quiet_shows}
 use Rattle.bx_session.proofs.Shown.{always_shows, no_need}
-use Rattle.bx_session.proofs.Tops.{clipboard_unseen}
+use Rattle.bx_session.proofs.Tops.{clipboard_unseen, input_unseen}
 use Rattle.bx_world.specs.declared.step.StepFault.{StepFault}
 use Rattle.bx_world.specs.declared.step.StepFault.TheVariants as faults
 use Rattle.bx_world.specs.Answers.{answer_of, mark_after}
 use Rattle.bx_world.specs.World.{is_applied, AfterByteStep, AfterToldStep, AfterReadStep, World, with_byte, with_told_size, told_after_key}
-use Rattle.bx_world.specs.World.{is_window, after_send}
+use Rattle.bx_world.specs.World.{around, is_window, after_send}
 use Rattle.bx_world.specs.declared.world.World.TheInside.{Inside}
-use Rattle.bx_world.specs.Showing.{CursorStands, IsInStep}
+use Rattle.bx_world.specs.Showing.{CursorStands, IsInStep, WorldState}
 use Rattle.bx_world.proofs.Keys.{spent, byte_keeps, byte_pending, both, same_number}
 use Rattle.bx_world.proofs.Steps.{opened, kept, painted, resized, sent, received, failed}
 
@@ -46,9 +48,12 @@ value_of w = record {
 
 -- ---- opening
 
-pub opened_is : {D : Type 0} (ucd : D → Data) (s : SessionState D) (tables : D) (text : List ℕ) (height width : ℕ) (base : Base) (line : List ℕ)
-    (screen : Option Terminal) → s ≡ record { tables = tables; session = at_opening (ucd tables) text height width base }
-    → QueuesPicture (ucd tables) [] None s.session → line ≡ [] → screen ≡ Some (unknown_terminal height width)
+-- a session that was opened, and then told its settings
+pub opened_is : {D : Type 0} (ucd : D → Data) (first s : SessionState D) (tables : D) (text : List ℕ) (height width : ℕ) (base : Base)
+    (settings : SettingsState) (line : List ℕ) (screen : Option Terminal)
+    → first ≡ record { tables = tables; session = at_opening (ucd tables) text height width base } → s.tables ≡ first.tables
+    → s.session ≡ with_settings (ucd first.tables) first.session settings → QueuesPicture (ucd first.tables) [] None s.session
+    → line ≡ [] → screen ≡ Some (unknown_terminal height width)
     → IsInStep (ucd s.tables) (record {
       session = s.session;
       line = line;
@@ -57,17 +62,38 @@ pub opened_is : {D : Type 0} (ucd : D → Data) (s : SessionState D) (tables : D
       screen = screen;
       told = true;
     })
-opened_is {D} ucd s tables text height width base line screen is queued empty shown =
-    let same : s.tables ≡ tables = ap (λ (x : SessionState D). x.tables) is in
-    rw (empty, shown) (opened (ucd s.tables) s.session height width (subst (λ t. QueuesPicture (ucd t) [] None s.session) (sym same) queued)
-    (ap (λ (x : SessionState D). x.session.editor.height) is, ap (λ (x : SessionState D). x.session.editor.width) is))
+opened_is {D} ucd first s tables text height width base settings line screen is kept set queued empty shown =
+    rw (empty, shown) (opened (ucd s.tables) s.session height width (subst (λ t. QueuesPicture (ucd t) [] None s.session) (sym kept) queued) (
+      ap (λ (x : Session). x.editor.height) set ∙ ap (λ (x : SessionState D). x.session.editor.height) is,
+      ap (λ (x : Session). x.editor.width) set ∙ ap (λ (x : SessionState D). x.session.editor.width) is,
+    ))
+
+pub opened_world : {D : Type 0} (ucd : D → Data) (first s : SessionState D) (tables : D) (text : List ℕ) (height width : ℕ) (base : Base)
+    (settings : SettingsState) (line : List ℕ) (screen : Option Terminal) (w : WorldState D)
+    → w ≡ record { tables = s.tables; world = record { session = s.session; line = line; height = height; width = width; screen = screen; told = true } }
+    → first ≡ record { tables = tables; session = at_opening (ucd tables) text height width base } → s.tables ≡ first.tables
+    → s.session ≡ with_settings (ucd first.tables) first.session settings → line ≡ [] → screen ≡ Some (unknown_terminal height width)
+    → w ≡ record { tables = tables; world = around (with_settings (ucd tables) (at_opening (ucd tables) text height width base) settings) height width }
+opened_world {D} ucd first s tables text height width base settings line screen w view is kept set empty shown =
+    let made : Session → List ℕ → Option Terminal → D → WorldState D = λ x l t d. record {
+      tables = d;
+      world = record { session = x; line = l; height = height; width = width; screen = t; told = true };
+    } in
+    let from : s.session ≡ with_settings (ucd tables) (at_opening (ucd tables) text height width base) settings =
+    set ∙ ap (λ (x : SessionState D). with_settings (ucd x.tables) x.session settings) is in
+    view
+    ∙ ap (λ x. made x line screen s.tables) from
+    ∙ ap (λ l. made (with_settings (ucd tables) (at_opening (ucd tables) text height width base) settings) l screen s.tables) empty
+    ∙ ap (λ t. made (with_settings (ucd tables) (at_opening (ucd tables) text height width base) settings) [] t s.tables) shown
+    ∙ ap (λ d. made (with_settings (ucd tables) (at_opening (ucd tables) text height width base) settings) [] (Some (unknown_terminal height width)) d)
+    (kept ∙ ap (λ (x : SessionState D). x.tables) is)
 
 -- ---- a clipboard
 
 clipboard_cursor : (d : Data) (s : Session) → CursorStands d s → CursorStands d (with_clipboard s)
-clipboard_cursor d s was owed on =
+clipboard_cursor d s was owed on nowhere =
     let e : Editor = s.editor in
-    let h = was owed on in
+    let h = was owed on (sym (input_unseen d e e.top true) ∙ nowhere) in
     let new : Editor = record e { clipboard = true } in
     subst (λ (p : PictureState). StandsOnItsCell d new e.top p) (sym (clipboard_unseen d e true e.top))
     (record { place = h.place; slot = h.slot; cell = h.cell; shown = h.shown; row = h.row; column = h.column })
@@ -116,9 +142,13 @@ owing_in_step d fault w b was =
     kept d w (owing_after_byte d fault w.session b) (told_after_key w (key_of_byte w.session b)) was (byte_pending d fault w.session b)
     (always_shows.owing_byte d fault w.session b) (λ owed. absurd (cc owed)) keeps.known (λ on. keeps.size was.size on)
 
+-- how its key scrolls
+abbrev scroll_at : Session → ℕ → Scroll
+scroll_at s b = scroll_behind s.editor (key_of_byte s b)
+
 -- its key was applied and painted
 pub fed_in_step : (d : Data) (fault : Option StoreFault) (w : World) (b : ℕ) (new : Session) → IsInStep d w
-    → new ≡ painted_after d (unpainted_after_byte d fault w.session b) (key_of_byte w.session b) → FeedPaints d w.session b new
+    → new ≡ painted_after d (scroll_at w.session b) (unpainted_after_byte d fault w.session b) (key_of_byte w.session b) → FeedPaints d w.session b new
     → IsInStep d (with_byte w b new)
 fed_in_step d fault w b new was is queued =
     painted d w new (told_after_key w (key_of_byte w.session b)) (unpainted_after_byte d None w.session b).known was queued
@@ -135,7 +165,8 @@ quiet_in_step d fault w b was none =
     let quiet = quiet_byte d fault s b need.1 in
     kept d w (unpainted_after_byte d fault s b) (told_after_key w (key_of_byte s b)) was quiet.pending
     (quiet_shows d s (unpainted_after_byte d fault s b) quiet was.state)
-    (λ owed on. quiet.editor.stands (was.cursor need.0 (sym quiet.editor.ended ∙ on))) keeps.known (λ on. keeps.size was.size on)
+    (λ owed on nowhere. quiet.editor.stands (was.cursor need.0 (sym quiet.editor.ended ∙ on) (sym quiet.editor.column ∙ nowhere)))
+    keeps.known (λ on. keeps.size was.size on)
 
 fed : (d : Data) (fault : Option StoreFault) (w : World) (b : ℕ) (new : Session) → IsInStep d w → new ≡ after_byte d fault w.session b
     → (is_painted w.session b ≡ true → FeedPaints d w.session b new) → IsInStep d (with_byte w b new)
@@ -143,8 +174,8 @@ fed d fault w b new was is paints = by_painting (is_painted w.session b) refl is
   u : Session
   u = unpainted_after_byte d fault w.session b
 
-  by_painting : (painted : Bool) → is_painted w.session b ≡ painted → new ≡ (if painted then painted_after d u (key_of_byte w.session b) else u)
-      → IsInStep d (with_byte w b new)
+  by_painting : (painted : Bool) → is_painted w.session b ≡ painted
+      → new ≡ (if painted then painted_after d (scroll_at w.session b) u (key_of_byte w.session b) else u) → IsInStep d (with_byte w b new)
   by_painting true prompts same = fed_in_step d fault w b new was same (paints prompts)
   by_painting false none same = rw same (quiet_in_step d fault w b was none)
 

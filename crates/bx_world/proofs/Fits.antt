@@ -8,13 +8,14 @@ use Rattle.bx_ucd.specs.Data.{Data}
 use Rattle.bx_editor.specs.Editor.{Editor}
 use Rattle.bx_editor.specs.Keys.{after_key}
 use Rattle.bx_session.specs.declared.status.Refused.TheVariants as refused
-use Rattle.bx_session.specs.Session.{StoreState, Session, key_of_byte, after_byte, is_painted, owing_after_byte}
+use Rattle.bx_session.specs.Session.{StoreState, Session, key_of_byte, after_byte, is_painted, owing_after_byte, scroll_behind}
 use Rattle.bx_session.proofs.KeySizes.{SameSize}
 use Rattle.bx_world.specs.declared.step.Step.{Step}
 use Rattle.bx_world.specs.declared.step.Step.TheVariants.{Byte, Window, Told, Send, Read}
 use Rattle.bx_world.specs.declared.step.StepFault.{StepFault}
 use Rattle.bx_world.specs.declared.step.StepFault.TheVariants as faults
 use Rattle.bx_world.specs.World.{World, told_after, with_byte, AfterByteStep, AfterSendStep, AfterReadStep, StepsTo, PlaysTo}
+use Rattle.bx_editor.specs.declared.scrolling.Scroll.{Scroll}
 use Rattle.bx_world.specs.Events.{after_input, painted_if}
 use Rattle.bx_world.specs.Runs.{Schedule}
 use Rattle.bx_grid.specs.declared.error.GridError.TheVariants as grid
@@ -50,9 +51,9 @@ refused_fits d fault e (Some key) = refl
 abbrev pub Fits : World → Type 0
 Fits w = w.told ≡ fits w.height w.width w.session.editor
 
-fed_fits : (d : Data) (fault : Option StoreFault) (old : World) (b : ℕ) (s : Session) (painted : Bool) → Fits old
-    → s.editor ≡ painted_if painted d (after_input d true fault old.session.editor (key_of_byte old.session b)) → Fits (with_byte old b s)
-fed_fits d fault old b s painted was is =
+fed_fits : (d : Data) (fault : Option StoreFault) (old : World) (b : ℕ) (s : Session) (painted : Bool) (scroll : Scroll) → Fits old
+    → s.editor ≡ painted_if painted d scroll (after_input d true fault old.session.editor (key_of_byte old.session b)) → Fits (with_byte old b s)
+fed_fits d fault old b s painted scroll was is =
     input_fits d fault old.height old.width old.told old.session.editor (key_of_byte old.session b) was
     ∙ ap (λ (e : Editor). fits old.height old.width e) (sym is)
 
@@ -60,10 +61,12 @@ byte_fits : (d : Data) (fault : Option StoreFault) (old new : World) (b : ℕ) (
     → Fits old → Fits new
 byte_fits d fault old new b (Ok done) is was =
     let fed = byte_fed d fault old new b (Ok done) is in
-    subst Fits (sym is) (fed_fits d fault old b (after_byte d fault old.session b) (is_painted old.session b) was (ap (λ (w : World). w.session.editor) (sym is) ∙ fed.editor))
+    subst Fits (sym is) (fed_fits d fault old b (after_byte d fault old.session b) (is_painted old.session b)
+    (scroll_behind old.session.editor (key_of_byte old.session b)) was (ap (λ (w : World). w.session.editor) (sym is) ∙ fed.editor))
 byte_fits d fault old new b (Err (faults.Session refused.Paint)) is was =
     let fed = byte_fed d fault old new b (Err (faults.Session refused.Paint)) is in
-    subst Fits (sym is.0) (fed_fits d fault old b (owing_after_byte d fault old.session b) false was (ap (λ (w : World). w.session.editor) (sym is.0) ∙ fed.editor))
+    subst Fits (sym is.0) (fed_fits d fault old b (owing_after_byte d fault old.session b) false
+    (scroll_behind old.session.editor (key_of_byte old.session b)) was (ap (λ (w : World). w.session.editor) (sym is.0) ∙ fed.editor))
 byte_fits d fault old new b (Err (faults.Session refused.Edit)) is was =
     let fed = byte_fed d fault old new b (Err (faults.Session refused.Edit)) is in
     let same : new.session.editor ≡ old.session.editor = fed.editor ∙ sym (refused_fits d fault old.session.editor (key_of_byte old.session b)) in

@@ -3,11 +3,7 @@ use Rattle.std.proofs.Common.{◌≡◌, ℕ, Bool, true, false, List, ◌⊎◌
 use Rattle.std.specs.Prelude.{IfSome, ◌||◌, ◌&&◌, ◌==◌}
 use Rattle.std.proofs.lemmas.Bool.Decides.{nat_tests}
 use Rattle.bx_keys.specs.declared.key.Key.{Key}
-use Rattle.bx_keys.specs.declared.key.Key.TheVariants.{Insert, Erase, Delete, Back, Forward, Up, Down, Right, Left, RowHome, RowEnd, PageUp, PageDown}
-use Rattle.bx_keys.specs.declared.key.Key.TheVariants.{Save, Quit, Undo, Redo, Repaint, Direction, Size, Mark, Copy, Cut, Put}
-use Rattle.bx_keys.specs.declared.key.Key.TheVariants.{Find, FindBack, WordLeft, WordRight, TextStart, TextEnd, Help, Notice}
-use Rattle.bx_keys.specs.declared.key.Key.TheVariants.{EraseWord, DeleteWord, ErasePoint, NewLine, FindNext, Cancel, LineUp, LineDown, PageBack, PageOn}
-use Rattle.bx_keys.specs.declared.key.Key.TheVariants.{Select, UndoRun, RedoRun, GoTo, Replace, Name, Tell, PasteStart, PasteEnd, Point}
+use Rattle.bx_keys.specs.declared.key.Key.TheVariants.{Size}
 use Rattle.bx_keys.specs.Keys.{rest_after}
 use Rattle.bx_keys.specs.Waiting.{head_of}
 use Rattle.bx_grid.specs.Picture.{PictureState}
@@ -30,58 +26,8 @@ abbrev pub IsTelling : Key → Type 0
 IsTelling key = (height : ℕ) × (width : ℕ) × (key ≡ Size height width)
 
 pub kind_of_key : (d : Data) (fault : Option StoreFault) (e : Editor) (key : Key) → IsOther d fault e key ⊎ IsTelling key
-kind_of_key d fault e (Insert ch) = inl (other_size d fault e (Insert ch) refl, λ h w t. refl)
-kind_of_key d fault e Erase = inl (other_size d fault e Erase refl, λ h w t. refl)
-kind_of_key d fault e Delete = inl (other_size d fault e Delete refl, λ h w t. refl)
-kind_of_key d fault e Back = inl (other_size d fault e Back refl, λ h w t. refl)
-kind_of_key d fault e Forward = inl (other_size d fault e Forward refl, λ h w t. refl)
-kind_of_key d fault e Up = inl (other_size d fault e Up refl, λ h w t. refl)
-kind_of_key d fault e Down = inl (other_size d fault e Down refl, λ h w t. refl)
-kind_of_key d fault e Right = inl (other_size d fault e Right refl, λ h w t. refl)
-kind_of_key d fault e Left = inl (other_size d fault e Left refl, λ h w t. refl)
-kind_of_key d fault e RowHome = inl (other_size d fault e RowHome refl, λ h w t. refl)
-kind_of_key d fault e RowEnd = inl (other_size d fault e RowEnd refl, λ h w t. refl)
-kind_of_key d fault e PageUp = inl (other_size d fault e PageUp refl, λ h w t. refl)
-kind_of_key d fault e PageDown = inl (other_size d fault e PageDown refl, λ h w t. refl)
-kind_of_key d fault e Save = inl (other_size d fault e Save refl, λ h w t. refl)
-kind_of_key d fault e Quit = inl (other_size d fault e Quit refl, λ h w t. refl)
-kind_of_key d fault e Undo = inl (other_size d fault e Undo refl, λ h w t. refl)
-kind_of_key d fault e Redo = inl (other_size d fault e Redo refl, λ h w t. refl)
-kind_of_key d fault e Repaint = inl (other_size d fault e Repaint refl, λ h w t. refl)
-kind_of_key d fault e Direction = inl (other_size d fault e Direction refl, λ h w t. refl)
-kind_of_key d fault e Mark = inl (other_size d fault e Mark refl, λ h w t. refl)
-kind_of_key d fault e Copy = inl (other_size d fault e Copy refl, λ h w t. refl)
-kind_of_key d fault e Cut = inl (other_size d fault e Cut refl, λ h w t. refl)
-kind_of_key d fault e Put = inl (other_size d fault e Put refl, λ h w t. refl)
-kind_of_key d fault e Find = inl (other_size d fault e Find refl, λ h w t. refl)
-kind_of_key d fault e FindBack = inl (other_size d fault e FindBack refl, λ h w t. refl)
-kind_of_key d fault e WordLeft = inl (other_size d fault e WordLeft refl, λ h w t. refl)
-kind_of_key d fault e WordRight = inl (other_size d fault e WordRight refl, λ h w t. refl)
-kind_of_key d fault e TextStart = inl (other_size d fault e TextStart refl, λ h w t. refl)
-kind_of_key d fault e TextEnd = inl (other_size d fault e TextEnd refl, λ h w t. refl)
-kind_of_key d fault e Help = inl (other_size d fault e Help refl, λ h w t. refl)
-kind_of_key d fault e EraseWord = inl (other_size d fault e EraseWord refl, λ h w t. refl)
-kind_of_key d fault e DeleteWord = inl (other_size d fault e DeleteWord refl, λ h w t. refl)
-kind_of_key d fault e ErasePoint = inl (other_size d fault e ErasePoint refl, λ h w t. refl)
-kind_of_key d fault e NewLine = inl (other_size d fault e NewLine refl, λ h w t. refl)
-kind_of_key d fault e FindNext = inl (other_size d fault e FindNext refl, λ h w t. refl)
-kind_of_key d fault e Cancel = inl (other_size d fault e Cancel refl, λ h w t. refl)
-kind_of_key d fault e LineUp = inl (other_size d fault e LineUp refl, λ h w t. refl)
-kind_of_key d fault e LineDown = inl (other_size d fault e LineDown refl, λ h w t. refl)
-kind_of_key d fault e PageBack = inl (other_size d fault e PageBack refl, λ h w t. refl)
-kind_of_key d fault e PageOn = inl (other_size d fault e PageOn refl, λ h w t. refl)
-kind_of_key d fault e Select = inl (other_size d fault e Select refl, λ h w t. refl)
-kind_of_key d fault e UndoRun = inl (other_size d fault e UndoRun refl, λ h w t. refl)
-kind_of_key d fault e RedoRun = inl (other_size d fault e RedoRun refl, λ h w t. refl)
-kind_of_key d fault e GoTo = inl (other_size d fault e GoTo refl, λ h w t. refl)
-kind_of_key d fault e Replace = inl (other_size d fault e Replace refl, λ h w t. refl)
-kind_of_key d fault e Name = inl (other_size d fault e Name refl, λ h w t. refl)
-kind_of_key d fault e Tell = inl (other_size d fault e Tell refl, λ h w t. refl)
-kind_of_key d fault e (Point row column) = inl (other_size d fault e (Point row column) refl, λ h w t. refl)
-kind_of_key d fault e PasteStart = inl (other_size d fault e PasteStart refl, λ h w t. refl)
-kind_of_key d fault e PasteEnd = inl (other_size d fault e PasteEnd refl, λ h w t. refl)
 kind_of_key d fault e (Size height width) = inr (height, width, refl)
-kind_of_key d fault e (Notice notice) = inl ((refl, refl), λ h w t. refl)
+kind_of_key d fault e key = inl (other_size d fault e key refl, λ h w t. refl)
 
 -- ---- what a key leaves of a world's marks
 

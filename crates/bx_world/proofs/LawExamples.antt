@@ -9,6 +9,7 @@ use Rattle.bx_grid.specs.Terminal.{Terminal, reads, unknown_terminal}
 use Rattle.bx_store.specs.declared.store.StoreFault.{StoreFault}
 use Rattle.bx_editor.specs.Editor.{Editor}
 use Rattle.bx_editor.specs.Picture.{picture}
+use Rattle.bx_editor.specs.Settings.{plain}
 use Rattle.bx_editor.proofs.Computed.{tables, ascii_columns}
 use Rattle.bx_session.specs.declared.status.Status.TheVariants.{Running}
 use Rattle.bx_session.specs.Beginning.{Beginning, IsBegun, begun, unpainted_at}
@@ -32,6 +33,7 @@ left = record {
   height = 1;
   width = 5;
   base = Auto;
+  settings = plain;
   clipboard = false;
   offset = None;
   unsaved = false;
@@ -45,7 +47,7 @@ a_run_goes_on_from_its_journal law = ap (λ (e : Editor). e.content.text) (law.r
 -- ---- `ab` is typed into an empty file in a window of one row of five columns
 
 abbrev empty : Beginning
-empty = record { text = []; height = 1; width = 5; base = Auto; clipboard = false; offset = None; unsaved = false; journal = [] }
+empty = record { text = []; height = 1; width = 5; base = Auto; settings = plain; clipboard = false; offset = None; unsaved = false; journal = [] }
 
 abbrev fed : List ByteAnswer
 fed = (0x61, Ok Running) ∷ (0x62, Ok Running) ∷ []

@@ -6,6 +6,7 @@ pub mod Schedules
 pub mod Ended
 pub mod Brought
 pub mod Live
+pub mod InputCursors
 pub mod Opened
 pub mod Sights
 pub mod Fits

@@ -5,16 +5,20 @@ use Rattle.bx_grid.specs.Picture.{Shows}
 use Rattle.bx_ucd.specs.Data.{Data}
 use Rattle.bx_editor.specs.Editor.{Editor}
 use Rattle.bx_editor.specs.Picture.{StandsOnItsCell, picture}
+use Rattle.bx_editor.specs.Status.{input_column}
 use Rattle.bx_common.specs.declared.base.Base.{Base}
-use Rattle.bx_session.specs.Session.{clipboard_if, Session, at_opening, before_painting, StoreState}
+use Rattle.bx_editor.specs.Settings.{SettingsState}
+use Rattle.bx_session.specs.Session.{Session, StoreState}
 use Rattle.bx_session.proofs.Replayed.{rest_from}
 use Rattle.bx_world.specs.declared.step.Step.{Step}
 use Rattle.bx_world.specs.declared.step.StepFault.{StepFault}
 use Rattle.bx_world.specs.World.{World, PlaysTo, is_last_accepted}
 use Rattle.bx_world.specs.Showing.{IsInStep}
 use Rattle.bx_world.specs.Events.{Event, AreEventsFrom}
-use Rattle.bx_world.specs.Headline.{Headline, HeadlineFromOpening}
+use Rattle.bx_world.specs.InputCursor.{StandsInLine}
+use Rattle.bx_world.specs.Headline.{Headline, HeadlineFromOpening, opened_by}
 use Rattle.bx_world.proofs.Brought.{AreDecoded, decoded_behind, follows_decoded}
+use Rattle.bx_world.proofs.InputCursors.{stands_in_line}
 use Rattle.bx_world.proofs.Live.{plays_live}
 use Rattle.bx_world.proofs.Schedules.{OwesNot, accepted_owes_nothing, shows_when_read}
 
@@ -41,28 +45,29 @@ headline_behind d journal old new store store' all played was rest paid live =
             (ap (λ (owed : Bool). is_last_accepted (not owed) all) paid ∙ accepted) told line pending);
         live = λ memory. plays_live d old new store store' all memory played live;
         owes = owes;
-        cursor = λ owed on. subst stands f.editor (was.cursor owed on);
+        cursor = λ owed on none. subst stands f.editor (was.cursor owed on (ap (input_column d) f.editor ∙ none));
+        in_line = λ column on has. subst (λ (e : Editor). StandsInLine d e (picture d e new.session.editor.top)) f.editor
+            (stands_in_line d new.session.editor new.session.editor.top column on (ap (input_column d) f.editor ∙ has));
       },
     )
 
 -- a session that was opened, with a clipboard or without
-record IsFresh (d : Data) (s : Session) (e : Editor) : Type 0 where
+record IsFresh (s : Session) : Type 0 where
   pub rest : s.rest ≡ []
   pub owed : s.painting_owed ≡ false
-  pub editor : s.editor ≡ e
 
-with_clipboard_or_not : (d : Data) (text : List ℕ) (height width : ℕ) (base : Base) (clipboard : Bool)
-    → IsFresh d (clipboard_if clipboard (at_opening d text height width base)) (clipboard_if clipboard (before_painting text height width base)).editor
-with_clipboard_or_not d text height width base true = record { rest = refl; owed = refl; editor = refl }
-with_clipboard_or_not d text height width base false = record { rest = refl; owed = refl; editor = refl }
+with_clipboard_or_not : (d : Data) (text : List ℕ) (height width : ℕ) (base : Base) (settings : SettingsState) (clipboard : Bool)
+    → IsFresh (opened_by d text height width base settings clipboard)
+with_clipboard_or_not d text height width base settings true = record { rest = refl; owed = refl }
+with_clipboard_or_not d text height width base settings false = record { rest = refl; owed = refl }
 
 pub headline_of : (d : Data) (old new : World) (store store' : StoreState) (all : List (Step × Result (Unit {0}) StepFault))
     → PlaysTo d old store all new store' → IsInStep d new → HeadlineFromOpening d old store all new store'
-headline_of d old new store store' all played was text height width base clipboard is =
-    let opened = with_clipboard_or_not d text height width base clipboard in
+headline_of d old new store store' all played was text height width base settings clipboard is =
+    let opened = with_clipboard_or_not d text height width base settings clipboard in
     let found = headline_behind d [] old new store store' all played was (ap (λ (w : World). w.session.rest) is ∙ opened.rest)
     (ap (λ (w : World). w.session.painting_owed) is ∙ opened.owed) (subst (λ (w : World). IsSome w.screen) (sym is) refl) in
-    (found.0, subst (λ (e : Editor). Headline d e [] store all new store' found.0) (ap (λ (w : World). w.session.editor) is ∙ opened.editor) found.1)
+    (found.0, subst (λ (e : Editor). Headline d e [] store all new store' found.0) (ap (λ (w : World). w.session.editor) is) found.1)
 
 pub headline : {D : Type 0} (ucd : D → Data) (tables tables' : D) (old new : World) (store store' : StoreState)
     (all : List (Step × Result (Unit {0}) StepFault)) → tables' ≡ tables → PlaysTo (ucd tables) old store all new store' → IsInStep (ucd tables') new

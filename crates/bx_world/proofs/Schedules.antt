@@ -13,7 +13,7 @@ use Rattle.bx_ucd.specs.Data.{Data}
 use Rattle.bx_editor.specs.Picture.{picture}
 use Rattle.bx_keys.specs.declared.key.Key.{Key}
 use Rattle.bx_session.specs.Session.{Session, after_byte, after_spending, is_painted, key_of_byte, needs_painting, painted_after}
-use Rattle.bx_session.specs.Session.{session_after_any, unpainted_after_byte, StoreState}
+use Rattle.bx_session.specs.Session.{scroll_behind, session_after_any, unpainted_after_byte, StoreState}
 use Rattle.bx_session.proofs.Shown.{no_need}
 use Rattle.bx_world.specs.declared.step.Step.{Step}
 use Rattle.bx_world.specs.declared.step.Step.TheVariants.{Byte, Window, Told, Send, Read}
@@ -66,7 +66,7 @@ byte_owes d fault s b = by_painting (is_painted s b) refl where
   u : Session
   u = unpainted_after_byte d fault s b
 
-  by_painting : (paints : Bool) → is_painted s b ≡ paints → (if paints then painted_after d u (key_of_byte s b) else u).painting_owed ≡ false
+  by_painting : (paints : Bool) → is_painted s b ≡ paints → (if paints then painted_after d (scroll_behind s.editor (key_of_byte s b)) u (key_of_byte s b) else u).painting_owed ≡ false
   by_painting true paints = refl
   by_painting false none = unpainted_owed d fault s b ∙ (no_need s.painting_owed (needs_painting s.editor (key_of_byte s b)) none).0
 

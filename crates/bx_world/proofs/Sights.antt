@@ -11,9 +11,11 @@ use Rattle.bx_grid.proofs.Reading.{reads-append}
 use Rattle.bx_store.specs.declared.store.StoreFault.{StoreFault}
 use Rattle.bx_ucd.specs.Data.{Data}
 use Rattle.bx_session.specs.declared.status.Refused.TheVariants as refused
-use Rattle.bx_editor.specs.Picture.{scrolled}
+use Rattle.bx_editor.specs.Picture.{scrolled_by}
+use Rattle.bx_editor.specs.declared.scrolling.Scroll.{Scroll}
+use Rattle.bx_editor.specs.declared.scrolling.Scroll.TheVariants.{Least}
 use Rattle.bx_session.specs.Session.{Session, after_byte, clip_after, is_painted, key_of_byte, painted_after, painting}
-use Rattle.bx_session.specs.Session.{then_clip, unpainted_after_byte, unpainted_after_told, StoreState}
+use Rattle.bx_session.specs.Session.{scroll_behind, then_clip, unpainted_after_byte, unpainted_after_told, StoreState}
 use Rattle.bx_session.specs.Session as sessions
 use Rattle.bx_session.proofs.Pictures.{then_clip_after}
 use Rattle.bx_world.specs.declared.step.Step.{Step}
@@ -49,9 +51,12 @@ queued_by_byte d fault s b = by_painting (is_painted s b) where
   u : Session
   u = unpainted_after_byte d fault s b
 
-  by_painting : (paints : Bool) → (bytes : List ℕ) × ((if paints then painted_after d u (key_of_byte s b) else u).pending ≡ s.pending ++ bytes)
+  scroll : Scroll
+  scroll = scroll_behind s.editor (key_of_byte s b)
+
+  by_painting : (paints : Bool) → (bytes : List ℕ) × ((if paints then painted_after d scroll u (key_of_byte s b) else u).pending ≡ s.pending ++ bytes)
   by_painting true =
-      let bytes : List ℕ = painting u.known (sessions.picture_of d (scrolled d u.editor)) in
+      let bytes : List ℕ = painting u.known (sessions.picture_of d (scrolled_by d scroll u.editor)) in
       let clip = clip_after u.editor (key_of_byte s b) in
       (then_clip bytes clip, then_clip_after u.pending bytes clip ∙ ap (λ xs. xs ++ then_clip bytes clip) (byte_pending d fault s b))
   by_painting false = ([], byte_pending d fault s b ∙ sym (append-nil s.pending))
@@ -76,7 +81,7 @@ told_queues : (d : Data) (old new : World) (height width : ℕ) (answer : Result
 told_queues d old new height width (Ok done) is =
     let u : Session = unpainted_after_told old.session height width in
     subst (Queues old) (sym is.1) (record {
-      bytes = painting u.known (sessions.picture_of d (scrolled d u.editor));
+      bytes = painting u.known (sessions.picture_of d (scrolled_by d Least u.editor));
       pending = refl;
       line = refl;
       screen = refl;

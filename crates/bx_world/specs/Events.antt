@@ -10,9 +10,11 @@ use Rattle.bx_store.specs.declared.store.StoreFault.{StoreFault}
 use Rattle.bx_ucd.specs.Data.{Data}
 use Rattle.bx_editor.specs.Editor.{Editor, with_size, with_top}
 use Rattle.bx_editor.specs.Keys.{after_key}
-use Rattle.bx_editor.specs.Picture.{next_top}
+use Rattle.bx_editor.specs.Picture.{top_behind}
+use Rattle.bx_editor.specs.declared.scrolling.Scroll.{Scroll}
+use Rattle.bx_editor.specs.declared.scrolling.Scroll.TheVariants.{Least}
 use Rattle.bx_session.specs.declared.status.Refused.TheVariants as refused
-use Rattle.bx_session.specs.Session.{StoreState, with_text, stores_by, text_to_save, needs_painting}
+use Rattle.bx_session.specs.Session.{StoreState, with_text, stores_by, text_to_save, needs_painting, scroll_behind}
 use Rattle.bx_world.specs.declared.step.Step.{Step}
 use Rattle.bx_world.specs.declared.step.Step.TheVariants.{Byte, Window, Told, Send, Read}
 use Rattle.bx_world.specs.declared.step.StepFault.{StepFault}
@@ -35,19 +37,19 @@ abbrev pub after_input : Data → Bool → Option StoreFault → Editor → Opti
 after_input d applied fault e None = e
 after_input d applied fault e (Some key) = if applied then after_key d fault e key else e
 
--- the offset whose row is shown first: a painting scrolls to the cursor
-abbrev pub top_if : Bool → Data → Editor → ℕ
-top_if true d e = next_top d e e.top
-top_if false d e = e.top
+-- the offset whose row is shown first: a painting scrolls as the key asks for, and then to the cursor
+abbrev pub top_if : Bool → Data → Scroll → Editor → ℕ
+top_if true d scroll e = top_behind d e e.top scroll
+top_if false d scroll e = e.top
 
--- the editor, scrolled to its cursor if the picture was painted
-abbrev pub painted_if : Bool → Data → Editor → Editor
-painted_if painted d e = with_top e (top_if painted d e)
+-- the editor, scrolled so if the picture was painted
+abbrev pub painted_if : Bool → Data → Scroll → Editor → Editor
+painted_if painted d scroll e = with_top e (top_if painted d scroll e)
 
 -- the editor after an event, and after events in order
 abbrev pub after_event : Data → Editor → Event → Editor
-after_event d e (Input byte key applied fault painted) = painted_if painted d (after_input d applied fault e key)
-after_event d e (Telling height width painted) = painted_if painted d (with_size e height width)
+after_event d e (Input byte key applied fault painted) = painted_if painted d (scroll_behind e key) (after_input d applied fault e key)
+after_event d e (Telling height width painted) = painted_if painted d Least (with_size e height width)
 
 abbrev pub after_events : Data → Editor → List Event → Editor
 after_events d e [] = e

@@ -2,6 +2,7 @@ pub mod World
 pub mod Showing
 pub mod Answers
 pub mod Events
+pub mod InputCursor
 pub mod Headline
 pub mod Reading
 pub mod Runs

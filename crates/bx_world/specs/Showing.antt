@@ -46,9 +46,10 @@ ShowsNow d w = IfSome w.screen (λ t. Shows t (picture_of d w.session))
 abbrev pub ShowsWhenRead : Bool → Data → World → Type 0
 ShowsWhenRead accepted d w = accepted ≡ true → w.told ≡ true → w.line ≡ [] → w.session.pending ≡ [] → ShowsNow d w
 
--- unless a painting is owed or the session has ended, the cursor of that picture is on its cell
+-- unless a painting is owed, the session has ended or an input line has the cursor, it is on the cell of its place in the text
 abbrev pub CursorStands : Data → Session → Type 0
-CursorStands d s = s.painting_owed ≡ false → s.editor.ended ≡ false → input_column d s.editor ≡ None → StandsOnItsCell d s.editor s.editor.top (picture_of d s)
+CursorStands d s =
+    s.painting_owed ≡ false → s.editor.ended ≡ false → input_column d s.editor ≡ None → StandsOnItsCell d s.editor s.editor.top (picture_of d s)
 
 -- ---- the invariant of all steps
 

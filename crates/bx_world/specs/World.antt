@@ -99,7 +99,7 @@ abbrev pub is_applied : {A : Type 0} → Result A StepFault → Bool
 is_applied (Err (faults.Session refused.Edit)) = false
 is_applied _ = true
 
--- the world after a byte, by the answer; `fault`: why a Save failed, None if it succeeded
+-- the world after a byte, by the answer; `fault`: why the save failed that its key made, None if it succeeded
 abbrev pub AfterByteStep : {A : Type 0} → Data → Option StoreFault → World → ℕ → Result A StepFault → World → Type 0
 AfterByteStep d fault old b (Ok _) new = new ≡ with_byte old b (after_byte d fault old.session b)
 AfterByteStep d fault old b (Err (faults.Session refused.Paint)) new =

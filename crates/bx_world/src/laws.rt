@@ -25,7 +25,8 @@ pub fn windows_keep_headline()
     ensures { HeadlineInChangingWindows }
 {}
 
-/// A session restored from a journal starts with the text as edited by the journal's keys, except Saves and Quits.
+/// A session restored from a journal starts with the text as edited by the journal's keys. A Quit, and a key that stored the text, only
+/// ends what any key ends.
 pub fn runs_begin_with_keys()
     ensures { BeginsWithKeys }
 {}

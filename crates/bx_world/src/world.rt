@@ -6,11 +6,11 @@ ghost use Rattle.bx_grid.specs.Picture.{is_size};
 ghost use Rattle.bx_terminal.specs.Screens.{IfShown};
 ghost use Rattle.bx_editor.specs.Editor.{Causes};
 ghost use Rattle.bx_world.specs.Showing.{IsInStep, IsShownOn, StaysWhole, WillShow, picture_of};
-ghost use Rattle.bx_session.specs.Session.{at_opening, with_clipboard};
+ghost use Rattle.bx_session.specs.Session.{at_opening, with_clipboard, with_settings};
 ghost use Rattle.bx_world.specs.World.{around};
 
 use bx_common::Base;
-use bx_session::{OpenError, Refused, Session, Settings};
+use bx_session::{OpenError, Session, Settings};
 use bx_terminal::Screen;
 use bx_ucd::BidiData;
 use std::alloc::Global;
@@ -61,8 +61,8 @@ impl<D: BidiData + Drop> Model for World<D> {
 }
 
 impl<D: BidiData + Drop> World<D> {
-    /// Opens a file's bytes in a window of `height` rows and `width` columns, with no bytes in transit and a terminal of unknown
-    /// content. An error drops the bytes and the tables.
+    /// Opens a file's bytes in a window of `height` rows and `width` columns, to work by these settings, with no bytes in transit and a
+    /// terminal of unknown content. An error drops the bytes and the tables.
     ///
     /// Errors, in this order: `TooLong` above 16,777,216 bytes; `NotUtf8` with the length of the longest UTF-8 prefix;
     /// `SizeOutOfRange` if a side is not from 1 to 500; `OutOfMemory`.
@@ -72,10 +72,11 @@ impl<D: BidiData + Drop> World<D> {
         height: u16,
         width: u16,
         base: Base,
+        settings: Settings,
     ) -> Result<World<D>, OpenError>
         ensures ok { IfOk result (λ w. w ≡ record {
           tables = tables;
-          world = around (at_opening (D.data tables) bytes.items height width base) height width;
+          world = around (with_settings (D.data tables) (at_opening (D.data tables) bytes.items height width base) settings) height width;
         }) }
         ensures short { OnOk result (length bytes.items ≤ largest_text) }
         ensures utf8 { OnOk result (IsUtf8 bytes.items) }
@@ -83,7 +84,10 @@ impl<D: BidiData + Drop> World<D> {
         ensures refused { IfErr result (Causes bytes.items height width) }
     {
         let alloc = *bytes.allocator();
-        let session = Session::open(bytes, tables, height, width, base)?;
+        let mut session = Session::open(bytes, tables, height, width, base)?;
+        let Ok(()) = session.set(settings) else {
+            return Err(OpenError::OutOfMemory);
+        };
         let Ok(screen) = Screen::new(alloc, height, width) else {
             return Err(OpenError::OutOfMemory);
         };
@@ -102,11 +106,6 @@ impl<D: BidiData + Drop> World<D> {
         ensures { self.new ≡ record self.old { world = record self.old.world { session = with_clipboard self.old.world.session } } }
     {
         self.session.use_clipboard();
-    }
-
-    /// Works by these settings from the first picture on. To be called before anything is sent.
-    pub fn set(&mut self, settings: Settings) -> Result<(), Refused> {
-        self.session.set(settings)
     }
 
     /// The session.

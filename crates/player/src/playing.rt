@@ -61,14 +61,14 @@ fn stage_of<'a>(
     let file = scene.copy_of_file(alloc)?;
     let terminal = terminal_of(alloc, scene)?;
     let (height, width, base) = (scene.height, scene.width, scene.base);
-    let mut world = match World::open(file, Lent { tables }, height, width, base) {
+    let settings = scene.options.settings(alloc)?;
+    let mut world = match World::open(file, Lent { tables }, height, width, base, settings) {
         Ok(world) => world,
         Err(error) => return Ok(Err(error)),
     };
     if scene.has_clipboard {
         world.use_clipboard();
     }
-    let _ = world.set(scene.options.settings(alloc)?);
     Ok(Ok(Stage {
         alloc,
         world,
@@ -117,12 +117,15 @@ fn play_alone(
 ) -> Result<Outcome, AllocError> {
     let file = scene.copy_of_file(alloc)?;
     let (height, width, base) = (scene.height, scene.width, scene.base);
+    let settings = scene.options.settings(alloc)?;
     match Session::open(file, Lent { tables }, height, width, base) {
         Ok(mut session) => {
+            if session.set(settings).is_err() {
+                return Ok(Outcome::Refused(OpenError::OutOfMemory));
+            }
             if scene.has_clipboard {
                 session.use_clipboard();
             }
-            let _ = session.set(scene.options.settings(alloc)?);
             let mut alone = Alone {
                 alloc,
                 session,

@@ -171,12 +171,16 @@ impl<D: BidiData + Drop> Stage<D> {
         self.save_text(file, answers)
     }
 
-    /// Notes the text, by a Save to a separate store. The Save breaks off an unfinished sequence or character.
+    /// Notes the text, by a copy to a separate store. A Save before it ends a paste, and breaks off an unfinished sequence or character;
+    /// it need not store the text.
     fn save_text(&mut self, file: &[u8], answers: &mut Answers) -> Result<(), AllocError> {
         let mut store = MemoryStore::new(self.alloc, None);
         // a refusal to paint here is not the scene's
         let _ = self.world.step(Step::Byte(SAVE), &mut store);
-        answers.note_text(&store, file)
+        let mut copy = MemoryStore::new(self.alloc, None);
+        // the store counts its failures
+        let _ = self.world.session().copy_to(&mut copy);
+        answers.note_text(&copy, file)
     }
 
     /// Takes steps without noting them, and notes the text after them.

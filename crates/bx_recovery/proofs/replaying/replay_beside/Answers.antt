@@ -34,7 +34,7 @@ loop-byte-preserved g c =
       goes = replayed_one ucd old.tables mid c.replay.new.self old.session keys at b was.goes (take_more keys at 0 c.loop-byte-test.true)
           c.in_ok-replay.ensures.after_byte;
       met = met_more d old.session mid.session c.replay.new.self.session keys (drop (at + 1) keys) c.args.file.now b c.key_of-key.result
-          c.loop-byte.met.is_known _ c.loop-byte.met.keys _ met c.key_of-key.ensures c.met_with-met.ensures.known c.met_with-met.ensures.keys next;
+          c.stores-stores.result c.loop-byte.met.is_known _ c.loop-byte.met.keys _ met c.key_of-key.ensures c.stores-stores.ensures c.met_with-met.ensures.known c.met_with-met.ensures.keys next;
       few = let one = one_key_at_most c.key_of-key.result in omega (arith, one, was.few, c.met_with-met.ensures.keys);
     }
 
