@@ -321,9 +321,9 @@ send() { # NAME LAST CURSOR SEQUENCE
     same "keys, $sender, $1" "$(last_row)" "$wanted_row"
 }
 
-# Prints the last row of `shown`, and the cursor.
+# Prints the last row of `shown`, without the end of what is in reverse video above it, and the cursor.
 last_row() {
-    echo "$shown" | sed '1s/.*|//' | paste -s -d ' '
+    echo "$shown" | sed '1s/.*|//' | tr -d '<>' | paste -s -d ' '
 }
 
 ends_with() { # ROW-AND-CURSOR
