@@ -36,7 +36,7 @@ use Rattle.bx_editor.specs.questions.Answers.{is_line_letter}
 use Rattle.bx_editor.specs.questions.KeyLetters.{code_letter}
 use Rattle.bx_editor.specs.questions.Names.{coded, is_code_letter}
 use Rattle.bx_editor.proofs.LinePutsLeft.{code-letter-kept}
-use Rattle.bx_editor_laws.specs.InputLaws.{KeepsPrompt, LineKeysKeepPrompt, StaysAsked, is_enter, is_of_line}
+use Rattle.bx_editor_laws.specs.InputLaws.{KeepsPrompt, LineKeysKeepPrompt, is_enter, is_of_line}
 use Rattle.bx_editor_laws.proofs.KeyEnds.{user-key}
 use Rattle.bx_editor_laws.proofs.LineKept.{in-line-keeps}
 use Rattle.std.proofs.lemmas.Bool.{not-true}

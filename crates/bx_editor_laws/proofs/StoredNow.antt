@@ -1,6 +1,6 @@
 -- A key that stores the text leaves the number of its edits.
 use Rattle.std.proofs.Common.{◌≡◌, ◌∙◌, ℕ, Bool, true, false, List, length, refl, sym, ap, subst, if◌then◌else◌}
-use Rattle.std.specs.Prelude.{◌&&◌, ◌||◌, ◌==◌, not, Option, Some, None, is_none, is_some}
+use Rattle.std.specs.Prelude.{◌&&◌, ◌||◌, ◌==◌, not, Option, Some, None, is_some}
 use Rattle.bx_keys.specs.declared.key.Key.{Key}
 use Rattle.bx_keys.specs.declared.key.Key.TheVariants.{Insert, NewLine, Save}
 use Rattle.bx_ucd.specs.Data.{Data}
@@ -18,10 +18,10 @@ use Rattle.bx_editor.specs.Before.{Before, before}
 use Rattle.bx_editor.specs.Editor.{Editor, cleared, with_typing}
 use Rattle.bx_editor.specs.Effects.{Refuses, Saves, by}
 use Rattle.bx_editor.specs.InputLines.{after_taking, is_no_letter}
-use Rattle.bx_editor.specs.Keys.{after_any, after_key, after_press, after_pressing, after_user, answered_overwrite, answered_question, ends_name, ends_paste, is_save, is_typed}
+use Rattle.bx_editor.specs.Keys.{after_any, after_key, after_press, answered_overwrite, answered_question, ends_name, ends_paste, is_save, is_typed}
 use Rattle.bx_editor.specs.Keys.{overwrites, saving_by, saving_of}
 use Rattle.bx_editor.specs.Putting.{is_paste, paste_ended}
-use Rattle.bx_editor.specs.Saving.{Saving, after_naming, after_save, asking_name, can_save, confirms, is_nameless, longest_name, own_saving, saving_over}
+use Rattle.bx_editor.specs.Saving.{Saving, after_save, asking_name, can_save, confirms, is_nameless, longest_name, own_saving, saving_over}
 use Rattle.bx_editor.specs.Saving.{saving_under, takes_name, with_answered_name, without_answer}
 use Rattle.bx_editor.specs.Search.{without_search}
 use Rattle.bx_editor_laws.specs.RunLaws.{saving_editor}

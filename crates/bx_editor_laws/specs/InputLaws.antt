@@ -1,12 +1,12 @@
 -- Laws of what is typed at a prompt, and of the question whether to overwrite. `d` and `e` are as in Laws.antt, `new` is the editor after a
 -- key, `line` the text of the input line that the prompt shows.
-use Rattle.std.specs.Prelude.{◌≡◌, ◌≢◌, ◌⊎◌, ◌≤◌, ◌<◌, ℕ, ◌&&◌, ◌||◌, ◌==◌, not, Bool, true, false, List, [], ◌∷◌, ◌++◌, length, take, drop, chars}
-use Rattle.std.specs.Prelude.{Option, Some, None, nat_lt}
+use Rattle.std.specs.Prelude.{◌≡◌, ◌≢◌, ◌≤◌, ◌<◌, ℕ, ◌&&◌, ◌||◌, ◌==◌, not, Bool, true, false, List, [], ◌++◌, length, take, drop, chars}
+use Rattle.std.specs.Prelude.{Option, Some, None}
 use Rattle.bx_common.specs.declared.base.Base.TheVariants.{Auto}
 use Rattle.bx_keys.specs.declared.key.Key.{Key}
 use Rattle.bx_keys.specs.declared.key.Key.TheVariants.{Insert, NewLine, Erase, ErasePoint, Delete, EraseWord, DeleteWord, Back, Forward, Left, Right, Save}
 use Rattle.bx_keys.specs.declared.key.Key.TheVariants.{WordLeft, WordRight, RowHome, RowEnd, Put, Up, Down, LineUp, LineDown, Select, Mark, Cut}
-use Rattle.bx_keys.specs.declared.key.Key.TheVariants.{PasteStart, PasteEnd, Copy, Cancel, Quit}
+use Rattle.bx_keys.specs.declared.key.Key.TheVariants.{PasteStart, PasteEnd}
 use Rattle.bx_store.specs.declared.store.StoreFault.{StoreFault}
 use Rattle.bx_ucd.specs.Data.{Data}
 use Rattle.bx_editor.specs.declared.questions.answers.Prompt.{Prompt}
@@ -14,15 +14,14 @@ use Rattle.bx_editor.specs.declared.questions.answers.Prompt.TheVariants as prom
 use Rattle.bx_editor.specs.declared.search_state.SearchState.{SearchState}
 use Rattle.bx_editor.specs.declared.search_state.SearchState.TheVariants as search_states
 use Rattle.bx_editor.specs.declared.undo_groups.typing.Typing.{Typing}
-use Rattle.bx_editor.specs.declared.undo_groups.typing.Typing.TheVariants as typings
 use Rattle.bx_editor.specs.Asking.{longest_code, longest_line}
 use Rattle.bx_editor.specs.Editor.{Editor, at_start}
 use Rattle.bx_editor.specs.InputLines.{input_line_of, is_no_letter}
 use Rattle.bx_editor.specs.Keys.{after_key, is_typed, overwrites, saving_of}
-use Rattle.bx_editor.specs.Saving.{Saving, Over, confirms, longest_name}
+use Rattle.bx_editor.specs.Saving.{Over, confirms, longest_name}
 use Rattle.bx_editor.specs.Search.{longest_query}
 use Rattle.bx_editor.specs.questions.Answers.{is_line_letter, shortened}
-use Rattle.bx_editor.specs.questions.KeyLetters.{code_letter, key_letter}
+use Rattle.bx_editor.specs.questions.KeyLetters.{key_letter}
 use Rattle.bx_editor.specs.questions.Names.{is_code_letter}
 
 -- ---- letters by their keys
