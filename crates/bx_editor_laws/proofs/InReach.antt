@@ -338,9 +338,9 @@ module _ (n : ℕ) (d : Data) where
       → ((confirmed && not pasted && not (reads || nameless)) && is_none fault) ≡ false → InReach e
       → let x = without_prompt e in
       InReach (
-        if pasted
-        then with_typing e typing
-        else (if confirmed then (if reads then record x { message = Some messages.ViewOnly } else (if nameless then asking_name x else after_save x fault)) else x)
+      if pasted
+      then with_typing e typing
+      else (if confirmed then (if reads then record x { message = Some messages.ViewOnly } else (if nameless then asking_name x else after_save x fault)) else x)
       )
   deciding e fault typing true confirmed reads nameless fails h = h
   deciding e fault typing false false reads nameless fails h = h
@@ -595,7 +595,7 @@ module _ (n : ℕ) (d : Data) where
         → InReach (answered_question d fault was e key (Letter c))
     question-letter prompt c is no-name k =
         (taking was.typing c e (after_answer_letter d fault e.prompt e c) k
-         (letter fault e.prompt e c (λ file. absurd (no-name (sym is ∙ file))) k)).0
+        (letter fault e.prompt e c (λ file. absurd (no-name (sym is ∙ file))) k)).0
 
     pub file-letter : (c : ℕ) → e.prompt ≡ prompts.File
         → (((c == 0xA) && is_typed_letter was.typing && not (length e.answer == 0)) && is_none fault) ≡ false

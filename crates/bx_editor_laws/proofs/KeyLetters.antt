@@ -148,7 +148,7 @@ keys-are-letters d fault e c letter is settled typed = record {
   name = λ asked.
       as-name d fault e settled c asked
       ∙ ap (λ new. as_left (Insert c) (if is_paste e.typing then with_typing (cleared e) e.typing else new))
-        (name-by d (cleared e) c letter (of-tables same_name c letter refl refl refl is))
+      (name-by d (cleared e) c letter (of-tables same_name c letter refl refl refl is))
       ∙ sym (as-name d fault e settled letter asked);
   code = λ asked.
       as-digit d fault e settled c asked typed

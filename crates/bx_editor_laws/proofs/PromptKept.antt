@@ -260,7 +260,7 @@ module _ (d : Data) (fault : Option StoreFault) (e : Editor) (line : List ℕ) (
   pressed key one accepted keeps =
       subst (KeepsPrompt e) (sym (user-key d fault e key settled one accepted))
       (left key (after_any d fault (before e) e.prompt e.search_state (cleared e) key)
-       (any d fault (before e) (cleared e) key e.prompt e.search_state line shown keeps))
+      (any d fault (before e) (cleared e) key e.prompt e.search_state line shown keeps))
 
   pasting : KeepsPrompt e (unpressed (with_typing e typings.Paste))
   pasting = same e (unpressed (with_typing e typings.Paste)) refl refl refl

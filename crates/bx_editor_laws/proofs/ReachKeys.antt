@@ -107,9 +107,10 @@ module _ (n : ℕ) (d : Data) (fault : Option StoreFault) where
   settled-stays x settled h key =
       each-key d fault x
       (λ k new. (may_edit k ≡ true → InPast n d x) → (is_some (saving_of x k) && is_none fault) ≡ false → InReach n d new)
-      (λ height width p fails. h) (λ notice p fails. h) (λ p fails. h)
-      (λ p fails. kept.start-keeps (InReach n d) pastes x h,
-       λ p fails. subst (λ (y : Editor). InReach n d (unpressed (with_typing y typings.Off))) (sym (none-ended d x settled)) h)
+      (λ height width p fails. h) (λ notice p fails. h) (λ p fails. h) (
+        λ p fails. kept.start-keeps (InReach n d) pastes x h,
+        λ p fails. subst (λ (y : Editor). InReach n d (unpressed (with_typing y typings.Off))) (sym (none-ended d x settled)) h,
+      )
       (λ k small p fails.
       subst (λ pasted. InReach n d (after_press d fault pasted x k)) (sym settled)
       (user x k h p (ap (λ saving. is_some saving && is_none fault) (sym (saving-settled x k settled)) ∙ fails))) key

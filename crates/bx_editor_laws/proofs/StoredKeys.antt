@@ -88,7 +88,7 @@ module _ (s : List ℕ) (d : Data) (fault : Option StoreFault) (was : Before) (e
   at-match one it =
       none (answered_match d fault was e key one) it
       (match-keeps d (Has s) (seeks s d) fault was e key one h h
-       (λ ends. pressed-other s d fault was (without_search e) key (not-true (is_save key) it) h) (λ way. wheel s d was e way h))
+      (λ ends. pressed-other s d fault was (without_search e) key (not-true (is_save key) it) h) (λ way. wheel s d was e way h))
 
   -- in a question
   erased : (how : Erasure) → Has s (after_erasing_answer d e.prompt e how)
@@ -215,7 +215,7 @@ module _ (s : List ℕ) (d : Data) (fault : Option StoreFault) (x : Editor) (key
 
   user-by : (b : Bool) → refuses_replacing x key ≡ b
       → StoredBy (saving_by x x.prompt key (answer_of key))
-        (if b then by d fault (before x) e Refuses else after_any d fault (before x) x.prompt x.search_state e key)
+      (if b then by d fault (before x) e Refuses else after_any d fault (before x) x.prompt x.search_state e key)
   user-by true is = refused key is
   user-by false is = any x.prompt x.search_state refl
 
@@ -280,9 +280,10 @@ module _ (s : List ℕ) (d : Data) (fault : Option StoreFault) where
       each-key d fault x (λ k new. Has (stored_if (is_some (saving_of x k)) s x fault) new)
       (λ height width. told x (Size height width) (with_size x height width) refl refl h)
       (λ notice. told x (Notice notice) (with_notice x notice) refl refl h)
-      (told x Fill x refl refl h)
-      (told x PasteStart (after_paste_start x) refl refl (kept.start-keeps (Has s) pastes x h),
-       told x PasteEnd (after_paste_end d x) refl refl (kept.paste-end-keeps d (Has s) (pressing s d) pastes x h))
+      (told x Fill x refl refl h) (
+        told x PasteStart (after_paste_start x) refl refl (kept.start-keeps (Has s) pastes x h),
+        told x PasteEnd (after_paste_end d x) refl refl (kept.paste-end-keeps d (Has s) (pressing s d) pastes x h),
+      )
       (λ k small.
       subst (λ p. Has (stored_if (is_some (saving_of x k)) s x fault) (after_press d fault p x k)) (sym settled)
       (subst (λ saving. Has (stored_if (is_some saving) s x fault) (after_user d fault x k)) (sym (saving-settled x k settled)) (user s d fault x k h)))

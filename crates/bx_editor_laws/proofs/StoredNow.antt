@@ -83,9 +83,9 @@ file d typings.Spent e c is = absurd (no-name (c == 0xA) (length e.answer == 0) 
 decided : (e : Editor) (typing : Typing) (pasted confirmed reads nameless : Bool) → (confirmed && not pasted && not (reads || nameless)) ≡ true
     → let x = without_prompt e in
     IsStored (
-      if pasted
-      then with_typing e typing
-      else (if confirmed then (if reads then record x { message = Some messages.ViewOnly } else (if nameless then asking_name x else after_save x None)) else x)
+    if pasted
+    then with_typing e typing
+    else (if confirmed then (if reads then record x { message = Some messages.ViewOnly } else (if nameless then asking_name x else after_save x None)) else x)
     )
 decided e typing false true false false is = refl
 decided e typing true true reads nameless is = absurd (cc is)
@@ -150,7 +150,7 @@ module _ (d : Data) (x : Editor) where
   letter-by key c means plain prompts.File search_state asked is =
       subst (λ a. IsStored (answered_question d None (before x) e key a)) (sym means)
       (subst (λ p. IsStored (after_taking d x.typing c e (after_answer_letter d None p e c))) (sym asked)
-       (file d x.typing e c (at-some (ends_name x c) (saving_under x x.answer) is)))
+      (file d x.typing e c (at-some (ends_name x c) (saving_under x x.answer) is)))
   letter-by key c means plain prompts.Overwrite search_state asked is =
       subst (λ a. IsStored (answered_overwrite None (before x) e a)) (sym means)
       (decided e x.typing (is_paste x.typing) (confirms c) e.read_only (is_nameless e) (at-some (overwrites x c) (saving_over x) is))

@@ -240,9 +240,9 @@ module _ (s : List ℕ) (fault : Option StoreFault) where
   pub deciding : (e : Editor) (typing : Typing) (pasted confirmed reads nameless : Bool) → Has s e
       → let x = without_prompt e in
       Has (stored_if (confirmed && not pasted && not (reads || nameless)) s e fault) (
-        if pasted
-        then with_typing e typing
-        else (if confirmed then (if reads then record x { message = Some messages.ViewOnly } else (if nameless then asking_name x else after_save x fault)) else x)
+      if pasted
+      then with_typing e typing
+      else (if confirmed then (if reads then record x { message = Some messages.ViewOnly } else (if nameless then asking_name x else after_save x fault)) else x)
       )
   deciding e typing true true reads nameless h = h
   deciding e typing true false reads nameless h = h

@@ -392,7 +392,7 @@ module _ (d : Data) (opened : Edited) where
         let view : Editor = record x { message = Some messages.ViewOnly } in
         either (is_paste was.typing) (with_typing e was.typing) (after_deciding fault x c) h
         (either (confirms c) (after_confirming fault x) x
-         (subst (λ b. IsView (if b then view else after_saving fault x)) (sym h.looked) (unasked e h)) (unasked e h))
+        (subst (λ b. IsView (if b then view else after_saving fault x)) (sym h.looked) (unasked e h)) (unasked e h))
     overwrite Stays = h
     overwrite _ = unasked e h
 
@@ -448,7 +448,7 @@ module _ (d : Data) (opened : Edited) where
       subst (λ r. IsView (if r && is_free e.prompt e.search_state e.pasted then unpressed (record e { message = Some messages.ViewOnly })
       else unpressed (with_typing (paste_begun e.prompt e.search_state e.pasted e) typings.Paste))) (sym h.looked)
       (subst (λ p. IsView (if true && is_free e.prompt e.search_state p then unpressed (record e { message = Some messages.ViewOnly })
-       else unpressed (with_typing (paste_begun e.prompt e.search_state p e) typings.Paste))) (sym h.settled) (begun e e.prompt e.search_state h))
+      else unpressed (with_typing (paste_begun e.prompt e.search_state p e) typings.Paste))) (sym h.settled) (begun e e.prompt e.search_state h))
 
   finished : (e : Editor) → IsView e → IsView (after_paste_end d e)
   finished e h = subst (λ p. IsView (unpressed (with_typing (ended_with d e p) typings.Off))) (sym h.settled) h
