@@ -1,11 +1,11 @@
 -- Dragging takes both units, whichever way, and dragging back the first alone.
-use Rattle.std.proofs.Common.{◌≡◌, ◌∙◌, ℕ, ◌+◌, ◌-◌, ◌≤◌, ◌<◌, nat_le, leb-true, leb-false, ne_eqb, Bool, true, false, List, [], ◌∷◌, Option, Some, None, refl, sym, ap, ap₂, arith, if◌then◌else◌}
-use Rattle.std.specs.Prelude.{◌≢◌, ◌==◌, ◌&&◌, min, max}
+use Rattle.std.proofs.Common.{◌≡◌, ◌∙◌, ℕ, ◌+◌, ◌-◌, ◌≤◌, ◌<◌, nat_le, leb-true, leb-false, ne_eqb, Bool, true, false, List, [], ◌∷◌, Some, None, refl, sym, ap, ap₂, arith, if◌then◌else◌}
+use Rattle.std.specs.Prelude.{◌==◌, ◌&&◌, min, max}
 use Rattle.std.proofs.lemmas.Bool.{le-leb}
 use Rattle.bx_keys.specs.declared.key.Key.TheVariants.{Drag, Point}
 use Rattle.bx_ucd.specs.Data.{Data}
 use Rattle.bx_view.specs.Numbers.{body_at, paragraph_number, start_at}
-use Rattle.bx_view.specs.Words.{unit_at, unit_stop}
+use Rattle.bx_view.specs.Words.{unit_at}
 use Rattle.bx_view.proofs.WordsAround.{stop-order}
 use Rattle.bx_editor.specs.declared.clicks.Extent.TheVariants as extents
 use Rattle.bx_editor.specs.declared.clicks.Pressed.{Pressed}
@@ -16,9 +16,9 @@ use Rattle.bx_editor.specs.Asking.{without_prompt}
 use Rattle.bx_editor.specs.Editor.{Editor, cleared, text_height}
 use Rattle.bx_editor.specs.Functions.{after_keys}
 use Rattle.bx_editor.specs.Keys.{after_key, as_left}
-use Rattle.bx_editor.specs.Pointing.{after_drag, clicking, dragged_to, part_at, pointed_place, press_extent, pressed_at, pressing, pressing_with, rests_on_unit, selecting_part}
+use Rattle.bx_editor.specs.Pointing.{clicking, dragged_to, pointed_place, press_extent, pressing, pressing_with, rests_on_unit, selecting_part}
 use Rattle.bx_editor.specs.Region.{region, unselected}
-use Rattle.bx_editor_laws.specs.PointingLaws.{DragTakes, DragsTakeBoth, both_units, unit_of}
+use Rattle.bx_editor_laws.specs.PointingLaws.{DragsTakeBoth, both_units, unit_of}
 use Rattle.bx_editor_laws.proofs.KeyEnds.{ended-key}
 use Rattle.bx_editor_laws.proofs.PointedKeys.{first-is}
 

@@ -1,9 +1,7 @@
 -- Whatever is typed behind the stored text, or stepped over, that text stays in reach of undo and redo.
 use Rattle.std.proofs.lemmas.Bool.{not-true}
 use Rattle.std.proofs.lemmas.Bool.Decides.{nat_tests}
-use Rattle.bx_common.specs.declared.base.Base.{Base}
 use Rattle.bx_keys.specs.declared.key.Key.{Key}
-use Rattle.bx_store.specs.declared.cause.SaveCause.{SaveCause}
 use Rattle.bx_store.specs.declared.store.StoreFault.{StoreFault}
 use Rattle.bx_text.specs.declared.change.Change.{Change}
 use Rattle.bx_text.specs.index.Paragraphs.{is_separator}
@@ -20,33 +18,30 @@ use Rattle.bx_editor.specs.declared.questions.line.Target.{Target}
 use Rattle.bx_editor.specs.declared.search_state.SearchPurpose.TheVariants as purposes
 use Rattle.bx_editor.specs.declared.message.Message.TheVariants as messages
 use Rattle.bx_editor.specs.declared.search_state.SearchState.{SearchState}
-use Rattle.bx_editor.specs.declared.search_state.SearchState.TheVariants.{Off, Begun, Typed, WithBegun, WithTyped, Replacing}
 use Rattle.bx_editor.specs.declared.undo_groups.typing.Typing.{Typing}
 use Rattle.bx_editor.specs.declared.undo_groups.typing.Typing.TheVariants as typings
-use Rattle.bx_editor.specs.Answering.{answer_of, without_line}
+use Rattle.bx_editor.specs.Answering.{answer_of}
 use Rattle.bx_editor.specs.Asking.{after_answer_letter, after_code, after_erasing_answer, after_going, after_name_key, after_name_letter, after_named}
 use Rattle.bx_editor.specs.Asking.{after_wrapping, answer_lengthened, answer_line, asking, gone_to, is_code_prompt, is_of_last, longest_code, longest_line}
 use Rattle.bx_editor.specs.Asking.{spans_lines, with_answer, with_character, with_wrap, without_prompt}
-use Rattle.bx_editor.specs.Before.{Before, before}
+use Rattle.bx_editor.specs.Before.{Before}
 use Rattle.bx_document.specs.History.{next_changes}
 use Rattle.bx_editor.specs.InputLines.{after_taking, ends_line, erases_nothing, is_no_letter, line_shortened}
-use Rattle.bx_editor.specs.Keys.{after_any, after_key, after_pressing, allowed_effect, answered, answered_match, answered_name, answered_overwrite}
-use Rattle.bx_editor.specs.Keys.{answered_question, answered_replacement, as_left, changes_text, effect_of, is_save}
-use Rattle.bx_editor.specs.Keys.{after_in_paste, after_press, after_user, refuses_replacing, saving_by, saving_of}
+use Rattle.bx_editor.specs.Keys.{after_pressing, answered, answered_match, answered_name, answered_overwrite}
+use Rattle.bx_editor.specs.Keys.{answered_question, answered_replacement, changes_text, effect_of, is_save}
 use Rattle.bx_editor.specs.LinePuts.{after_line_put, typed_in}
 use Rattle.bx_editor.specs.RowMoves.{after_wheel, carried, shows_place, wheel_top}
-use Rattle.bx_editor.specs.Saving.{Saving, after_deciding, after_naming, after_save, after_saving, asked_over, asking_name, asking_over, can_save, confirms, is_changed}
-use Rattle.bx_editor.specs.Saving.{is_nameless, longest_name, own_saving, saving_over, saving_under, takes_name, with_answered_name, without_answer}
+use Rattle.bx_editor.specs.Saving.{after_naming, after_save, asking_name, can_save, confirms, is_changed}
+use Rattle.bx_editor.specs.Saving.{is_nameless, longest_name, takes_name, with_answered_name, without_answer}
 use Rattle.bx_editor.specs.Search.{after_beginning, next_or_start, search_back, search_from, sought, sought_alone, without_search}
 use Rattle.bx_editor.specs.questions.Answers.{asked, is_line_letter}
 use Rattle.bx_editor.specs.questions.KeyLetters.{code_letter, name_letter}
 use Rattle.bx_editor.specs.questions.Names.{asks_code, closing, coded, is_code_letter, named}
 use Rattle.bx_editor_laws.proofs.LineKept.{in-line-keeps}
-use Rattle.bx_editor.proofs.InSearch.{each-key}
 use Rattle.std.proofs.Common.{◌≡◌, ℕ, ◌+◌, ◌≤◌, Bool, true, false, List, [], ◌∷◌, ◌++◌, length, replicate, refl, sym, ap, subst, ◌∙◌, arith, if◌then◌else◌}
 use Rattle.std.specs.Prelude.{◌&&◌, ◌||◌, ◌==◌, not, min, nat_le, nat_lt, chars, encode_utf8, Option, Some, None, is_none}
 use Rattle.bx_keys.specs.declared.key.Key.TheVariants.{Insert, Erase, Delete, Cut, Put, Replace, EraseWord, DeleteWord, ErasePoint, NewLine, Save}
-use Rattle.bx_text.specs.Edits.{Edit, fits, fits_both, splice}
+use Rattle.bx_text.specs.Edits.{Edit, fits, fits_both}
 use Rattle.bx_document.specs.Swapped.{behind_character}
 use Rattle.bx_editor.specs.undo_groups.Groups.{after_insertion, after_removal, goes_on, goes_on_removing, kind_of}
 use Rattle.bx_editor.specs.declared.undo_groups.typing.Kind.{Kind}
@@ -59,7 +54,7 @@ use Rattle.bx_editor.specs.declared.clicks.Extent.{Extent}
 use Rattle.bx_editor.specs.declared.clicks.Extent.TheVariants as extents
 use Rattle.bx_editor.specs.declared.clicks.Pressed.{Pressed}
 use Rattle.bx_editor.specs.declared.answer.Answer.TheVariants.{Letter, Erases, Moves, PutsIn, Passes, GoesBack, Next, Previous, Replaces, Scrolls, Stays, Ends}
-use Rattle.bx_editor.specs.Editor.{Editor, after_redo, after_step, after_undo, by_group, cleared, group_length, rows, stored_behind, text_height}
+use Rattle.bx_editor.specs.Editor.{Editor, after_redo, after_step, after_undo, by_group, group_length, rows, stored_behind, text_height}
 use Rattle.bx_editor.specs.Editor.{with_exchange, with_insertion, with_removal, with_typing}
 use Rattle.bx_editor.specs.Effects.{Effect, Types, BeginsLine, Puts, Removes, RemovesWord, Steps, StepsGroup, Goes, GoesByRows, GoesToRowEnd, Clicks, Drags}
 use Rattle.bx_editor.specs.Effects.{Wheels, Marks, Selects, SelectsAll, Unmarks, Copies, Cuts, Seeks, SeeksNext, SeeksPrevious, Saves, Quits, Turns, Helps}
@@ -343,9 +338,9 @@ module _ (n : ℕ) (d : Data) where
       → ((confirmed && not pasted && not (reads || nameless)) && is_none fault) ≡ false → InReach e
       → let x = without_prompt e in
       InReach (
-        if pasted
-        then with_typing e typing
-        else (if confirmed then (if reads then record x { message = Some messages.ViewOnly } else (if nameless then asking_name x else after_save x fault)) else x)
+      if pasted
+      then with_typing e typing
+      else (if confirmed then (if reads then record x { message = Some messages.ViewOnly } else (if nameless then asking_name x else after_save x fault)) else x)
       )
   deciding e fault typing true confirmed reads nameless fails h = h
   deciding e fault typing false false reads nameless fails h = h
@@ -600,7 +595,7 @@ module _ (n : ℕ) (d : Data) where
         → InReach (answered_question d fault was e key (Letter c))
     question-letter prompt c is no-name k =
         (taking was.typing c e (after_answer_letter d fault e.prompt e c) k
-         (letter fault e.prompt e c (λ file. absurd (no-name (sym is ∙ file))) k)).0
+        (letter fault e.prompt e c (λ file. absurd (no-name (sym is ∙ file))) k)).0
 
     pub file-letter : (c : ℕ) → e.prompt ≡ prompts.File
         → (((c == 0xA) && is_typed_letter was.typing && not (length e.answer == 0)) && is_none fault) ≡ false

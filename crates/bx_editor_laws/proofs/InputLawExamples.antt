@@ -1,17 +1,21 @@
 -- Worked examples, each from a law of prompts alone.
-use Rattle.std.proofs.Common.{◌≡◌, [], ◌∷◌, ◌++◌, refl, ap}
-use Rattle.std.specs.Prelude.{◌≢◌, codes, Some, None}
+use Rattle.std.proofs.Common.{◌≡◌, true, List, [], ◌∷◌, ◌++◌, refl, ap}
+use Rattle.std.specs.Prelude.{◌≢◌, codes, Option, Some, None}
 use Rattle.std.specs.Fmt.{digits}
 use Rattle.ucd_case.proofs.Computing.{ucd_case}
 use Rattle.unicode_normalization.proofs.Computing.{unicode_normalization}
 use Rattle.unicode_segmentation.proofs.Computing.{unicode_segmentation}
 use Rattle.unicode_width.proofs.Computing.{unicode_width}
-use Rattle.bx_keys.specs.declared.key.Key.TheVariants.{AskOverwrite, Find, Insert, Mark, Name, Save}
+use Rattle.bx_keys.specs.declared.key.Key.{Key}
+use Rattle.bx_keys.specs.declared.key.Key.TheVariants.{AskOverwrite, Delete, Find, Insert, Mark, Name, Save}
 use Rattle.bx_editor.specs.declared.questions.answers.Prompt.TheVariants as prompts
 use Rattle.bx_editor.specs.declared.search_state.SearchState.TheVariants.{Off}
 use Rattle.bx_editor.specs.Editor.{Editor}
 use Rattle.bx_editor.specs.Keys.{saving_of}
-use Rattle.bx_editor.specs.Saving.{Over}
+use Rattle.bx_store.specs.declared.store.StoreFault.{StoreFault}
+use Rattle.bx_editor.specs.Saving.{Saving, Over}
+use Rattle.bx_editor_laws.specs.Laws.{after_typing}
+use Rattle.bx_editor_laws.specs.ViewLaws.{IsViewed, ViewKeepsText}
 use Rattle.bx_editor_laws.specs.InputLaws.{KeysAreLetters, LineKeysKeepPrompt, OnlyAnswersOverwrite}
 use Rattle.bx_editor.proofs.Computed.{tables, start, after}
 
@@ -53,3 +57,21 @@ y_overwrites law = (law tables None decided Save).answer 0x79 refl refl refl ref
 pub a_save_only_declines : OnlyAnswersOverwrite → (after decided (Save ∷ [])).prompt ≡ prompts.Off
 unfolding unicode_segmentation unicode_width digits
 a_save_only_declines law = (law tables None decided Save).declined refl refl
+
+-- ---- a text that is only looked at
+
+abbrev viewed : Editor
+viewed = record (start (codes "ab") 2 40) { read_only = true }
+
+viewed_is : IsViewed viewed
+viewed_is = record { looked = refl; settled = refl; unasked = refl; unsought = refl; finds = refl }
+
+abbrev two_keys : List (Key × Option StoreFault)
+two_keys = (Insert 0x78, None) ∷ (Delete, None) ∷ []
+
+pub nothing_goes_into_it : ViewKeepsText → (after_typing tables viewed two_keys).content.text ≡ codes "ab"
+nothing_goes_into_it law = ap (λ t. t.text) (law tables viewed two_keys viewed_is).content_is
+
+pub no_save_stores_it : ViewKeepsText → (saving : Saving) → saving_of viewed Save ≢ Some saving
+no_save_stores_it law saving is =
+    let file : prompts.Off ≡ prompts.File = ((law tables viewed [] viewed_is).stores Save saving is).0 in cc file

@@ -1,11 +1,10 @@
 -- A key that ends what is asked and sought has its usual effect behind that.
-use Rattle.std.proofs.Common.{◌≡◌, ◌⊎◌, inl, inr, Bool, true, false, refl, sym, ap, ap₂, ◌∙◌}
-use Rattle.std.specs.Prelude.{◌&&◌, Option, Some, None, if◌then◌else◌}
+use Rattle.std.proofs.Common.{◌≡◌, ◌⊎◌, inl, inr, Bool, true, false, refl, ap, ap₂, ◌∙◌}
+use Rattle.std.specs.Prelude.{◌&&◌, Option, None, if◌then◌else◌}
 use Rattle.bx_keys.specs.declared.key.Key.{Key}
 use Rattle.bx_keys.specs.declared.key.Key.TheVariants.{Erase}
 use Rattle.bx_store.specs.declared.store.StoreFault.{StoreFault}
 use Rattle.bx_ucd.specs.Data.{Data}
-use Rattle.bx_editor.specs.declared.answer.Answer.{Answer}
 use Rattle.bx_editor.specs.declared.answer.Answer.TheVariants as answers
 use Rattle.bx_editor.specs.declared.questions.answers.Prompt.{Prompt}
 use Rattle.bx_editor.specs.declared.questions.answers.Prompt.TheVariants as prompts
@@ -17,7 +16,7 @@ use Rattle.bx_editor.specs.Before.{Before, before}
 use Rattle.bx_editor.specs.Editor.{Editor, cleared}
 use Rattle.bx_editor.specs.Effects.{Refuses, by}
 use Rattle.bx_editor.specs.Functions.{is_told_key}
-use Rattle.bx_editor.specs.Keys.{after_any, after_key, after_pressing, after_user, answered, answered_match, answered_name, answered_question}
+use Rattle.bx_editor.specs.Keys.{after_any, after_key, after_pressing, answered, answered_match, answered_name, answered_question}
 use Rattle.bx_editor.specs.Keys.{answered_overwrite, answered_replacement, as_left, changes_text, effect_of, is_overwrite, refuses_replacing}
 use Rattle.bx_editor.specs.PasteLaws.{cuts_in}
 use Rattle.bx_editor.specs.Search.{without_search}

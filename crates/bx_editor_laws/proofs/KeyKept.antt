@@ -1,7 +1,6 @@
 -- What edits, undo and redo keep of the text, each key keeps.
 use Rattle.std.proofs.Common.{◌≡◌, ℕ, Bool, true, false, List, [], ◌∷◌, length, Option, Some, None, refl, if◌then◌else◌}
 use Rattle.std.specs.Prelude.{◌==◌}
-use Rattle.bx_common.specs.declared.base.Base.{Base}
 use Rattle.bx_keys.specs.declared.key.Key.{Key}
 use Rattle.bx_store.specs.declared.store.StoreFault.{StoreFault}
 use Rattle.bx_ucd.specs.Data.{Data}
@@ -17,15 +16,15 @@ use Rattle.bx_editor.specs.declared.search_state.SearchState.{SearchState}
 use Rattle.bx_editor.specs.declared.search_state.SearchState.TheVariants.{Off, Begun, Typed, WithBegun, WithTyped, Replacing}
 use Rattle.bx_editor.specs.Answering.{answer_of, without_line}
 use Rattle.bx_editor.specs.declared.message.Message.TheVariants.{NothingToPut}
-use Rattle.bx_editor.specs.Asking.{asking, with_wrap, without_prompt}
+use Rattle.bx_editor.specs.Asking.{with_wrap, without_prompt}
 use Rattle.bx_editor.specs.Before.{Before, before}
 use Rattle.bx_editor.specs.Editor.{Editor, after_group_step, after_step, cleared, rows, unpressed, with_base, with_exchange, with_insertion, with_notice}
 use Rattle.bx_editor.specs.Editor.{with_place, with_removal, with_size, with_typing}
 use Rattle.bx_editor.specs.Effects.{Effect, Wheels, Seeks, SeeksNext, SeeksPrevious, Saves, AsksLine, AsksName, AsksFile, AsksOverwrite, Refuses, by}
-use Rattle.bx_editor.specs.Keys.{after_any, after_asking, after_key, after_pressing, after_searching, after_user, allowed_effect, answered, answered_match}
+use Rattle.bx_editor.specs.Keys.{after_any, after_key, after_pressing, after_user, allowed_effect, answered, answered_match}
 use Rattle.bx_editor.specs.Keys.{answered_name, answered_overwrite, answered_question, answered_replacement, as_left, refuses_replacing}
 use Rattle.bx_editor.specs.LinePuts.{after_line_put, typed_in}
-use Rattle.bx_editor.specs.Putting.{is_paste, paste_ended, with_line_put}
+use Rattle.bx_editor.specs.Putting.{is_paste, with_line_put}
 use Rattle.bx_editor.specs.Region.{unselected}
 use Rattle.bx_editor.specs.RowMoves.{after_wheel, carried, shows_place, wheel_top}
 use Rattle.bx_editor.specs.Saving.{after_deciding, asking_name, asking_over}

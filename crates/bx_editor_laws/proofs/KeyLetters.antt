@@ -19,7 +19,7 @@ use Rattle.bx_editor.specs.Keys.{after_any, after_key, as_left, is_typed}
 use Rattle.bx_editor.specs.Putting.{is_paste}
 use Rattle.bx_editor.specs.questions.KeyLetters.{arabic_keys, code_letter, hebrew_keys, key_letter, name_letter, or_letter, persian_keys}
 use Rattle.bx_editor.specs.questions.Names.{asks_code, beside, coded, is_code_letter, named}
-use Rattle.bx_editor_laws.specs.InputLaws.{AnswersAsLetter, KeysAreLetters}
+use Rattle.bx_editor_laws.specs.InputLaws.{KeysAreLetters}
 use Rattle.bx_editor_laws.proofs.KeyEnds.{user-key}
 
 -- ---- what holds of each pair of the tables holds of a key and its letter
@@ -148,7 +148,7 @@ keys-are-letters d fault e c letter is settled typed = record {
   name = λ asked.
       as-name d fault e settled c asked
       ∙ ap (λ new. as_left (Insert c) (if is_paste e.typing then with_typing (cleared e) e.typing else new))
-        (name-by d (cleared e) c letter (of-tables same_name c letter refl refl refl is))
+      (name-by d (cleared e) c letter (of-tables same_name c letter refl refl refl is))
       ∙ sym (as-name d fault e settled letter asked);
   code = λ asked.
       as-digit d fault e settled c asked typed

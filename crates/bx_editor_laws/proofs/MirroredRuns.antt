@@ -143,9 +143,11 @@ exchange d e start stop [] h =
     (replaced-chain [] e.content None start stop [] e.place ((with_removal d e start stop false).place) h.0, h.1)
 exchange d e start stop (b ∷ bs) h =
     let cut = with_removal d e start stop false in
-    let two = with_exchange d e start stop (b ∷ bs) in
-    (replaced-chain [] cut.content None start start (b ∷ bs) cut.place two.place
-    (replaced-chain [] e.content None start stop [] e.place cut.place h.0), h.1)
+    let two = with_exchange d e start stop (b ∷ bs) in (
+      replaced-chain [] cut.content None start start (b ∷ bs) cut.place two.place
+          (replaced-chain [] e.content None start stop [] e.place cut.place h.0),
+      h.1,
+    )
 
 wrapping : (d : Data) (e : Editor) (opener closer : List ℕ) → IsChained e → IsChained (with_wrap d e opener closer)
 wrapping d e opener closer h =
@@ -153,9 +155,11 @@ wrapping d e opener closer h =
     let start = (region e).0 in
     let stop = (region e).1 in
     let between = place_after d e (splice t.text stop stop closer) (stop + length closer) in
-    let one : Edited = inserted t stop closer e.place between in
-    (replaced-chain [] one None start start opener between (with_wrap d e opener closer).place
-    (replaced-chain [] t None stop stop closer e.place between h.0), h.1)
+    let one : Edited = inserted t stop closer e.place between in (
+      replaced-chain [] one None start start opener between (with_wrap d e opener closer).place
+          (replaced-chain [] t None stop stop closer e.place between h.0),
+      h.1,
+    )
 
 undo : (e : Editor) (past : List Edit) → IsChained e → IsChained (after_undo e past)
 undo e [] h = h

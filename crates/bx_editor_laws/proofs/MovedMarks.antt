@@ -8,7 +8,6 @@ use Rattle.bx_keys.specs.declared.key.Key.TheVariants.{Find, FindBack, FindNext,
 use Rattle.bx_ucd.specs.Data.{Data}
 use Rattle.bx_editor.specs.declared.answer.Answer.{Answer}
 use Rattle.bx_editor.specs.declared.answer.Answer.TheVariants as answers
-use Rattle.bx_editor.specs.declared.clicks.Extent.{Extent}
 use Rattle.bx_editor.specs.declared.clicks.Extent.TheVariants as extents
 use Rattle.bx_editor.specs.declared.questions.answers.Prompt.{Prompt}
 use Rattle.bx_editor.specs.declared.questions.answers.Prompt.TheVariants as prompts

@@ -1,6 +1,6 @@
 -- Only an answer overwrites what another program wrote.
 use Rattle.std.proofs.Common.{◌≡◌, ◌≢◌, ◌∙◌, ℕ, Bool, true, false, List, Option, Some, None, refl, sym, ap, if◌then◌else◌}
-use Rattle.std.specs.Prelude.{◌==◌, ◌&&◌, not, is_some}
+use Rattle.std.specs.Prelude.{◌&&◌, not, is_some}
 use Rattle.bx_keys.specs.declared.key.Key.{Key}
 use Rattle.bx_keys.specs.declared.key.Key.TheVariants.{Insert, NewLine, Save}
 use Rattle.bx_store.specs.declared.store.StoreFault.{StoreFault}

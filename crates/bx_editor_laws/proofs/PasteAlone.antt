@@ -112,7 +112,7 @@ key-alone d fault e key h =
     let begun = paste_begun e.prompt e.search_state e.pasted e in
     each-key d fault e (λ k new. IsAlone new) (λ height width. h) (λ notice. h) h (
       either IsAlone (refuses_paste e) (unpressed (record e { message = Some ViewOnly })) (unpressed (with_typing begun Paste)) h
-      (begun-alone e e.prompt e.search_state e.pasted refl refl h),
+          (begun-alone e e.prompt e.search_state e.pasted refl refl h),
       inl (over d e),
     )
     (λ k other. press-alone d fault e k e.pasted refl h) key

@@ -1,5 +1,5 @@
 -- Pointing at the picture: where it leads, and what is shown then.
-use Rattle.std.proofs.Common.{◌≡◌, ℕ, ◌+◌, ◌-◌, ◌≤◌, ◌<◌, nat_le, Bool, true, false, List, Option, Some, None, refl, sym, ap, ap₂, subst, ◌∙◌}
+use Rattle.std.proofs.Common.{◌≡◌, ℕ, ◌+◌, ◌-◌, ◌≤◌, ◌<◌, nat_le, Bool, true, false, Option, Some, None, refl, sym, ap, ap₂, subst, ◌∙◌}
 use Rattle.std.proofs.Common.{arith, inl, inr, leb-true, if◌then◌else◌}
 use Rattle.std.specs.Prelude.{◌≢◌, ◌⊎◌, ◌==◌, ◌&&◌, unwrap_or}
 use Rattle.std.proofs.lemmas.Bool.{le-leb}
@@ -32,7 +32,7 @@ use Rattle.bx_editor.specs.Asking.{without_prompt}
 use Rattle.bx_editor.specs.Editor.{Editor, cleared, rows, text_height}
 use Rattle.bx_editor.specs.Functions.{HasRows, after_keys}
 use Rattle.bx_editor.specs.Keys.{after_key, as_left}
-use Rattle.bx_editor.specs.Picture.{blank_picture, next_top, picture, text_picture, scrolled, with_cursor}
+use Rattle.bx_editor.specs.Picture.{blank_picture, picture, text_picture, scrolled, with_cursor}
 use Rattle.bx_editor.specs.Pointing.{after_drag, clicking, further, part_at, pointed_place, press_extent, pressed_at, pressing, pressing_with, selecting_part}
 use Rattle.bx_editor.specs.Region.{aged, is_empty, mark_left, soft_left, unselected}
 use Rattle.bx_editor.specs.Status.{input_column}

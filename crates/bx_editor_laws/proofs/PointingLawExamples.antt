@@ -4,12 +4,13 @@ use Rattle.std.specs.Prelude.{codes, None, Some}
 use Rattle.std.specs.Fmt.{digits}
 use Rattle.unicode_segmentation.proofs.Computing.{unicode_segmentation}
 use Rattle.unicode_width.proofs.Computing.{unicode_width}
-use Rattle.bx_keys.specs.declared.key.Key.TheVariants.{Forward, Point}
+use Rattle.bx_keys.specs.declared.key.Key.TheVariants.{Drag, Forward, Point}
 use Rattle.bx_view.specs.TextRows.{TextRow, row_at, text_row_glyphs}
 use Rattle.bx_view_laws.specs.Pointed.{ShowsUnit}
 use Rattle.bx_editor.specs.Editor.{Editor, rows}
 use Rattle.bx_editor.specs.Picture.{scrolled}
-use Rattle.bx_editor_laws.specs.PointingLaws.{cursor_column, IsShown, PointStays, PointTakesUnits, ThreePresses}
+use Rattle.bx_editor.specs.Region.{region}
+use Rattle.bx_editor_laws.specs.PointingLaws.{cursor_column, DragsTakeBoth, IsShown, PointStays, PointTakesUnits, ThreePresses}
 use Rattle.bx_editor.proofs.Computed.{tables, start, after}
 
 -- ---- at the cursor
@@ -98,3 +99,21 @@ unfolding unicode_segmentation unicode_width digits
 the_fourth_goes_there_again law =
     let high : 1 ≤ 1 = omega arith in
     let again = (law tables two_words 1 4 refl (λ over. cc over) refl (λ fresh. cc fresh) high).again in (again.place_is, again.mark_is)
+
+-- ---- dragging
+
+abbrev six_letters : Editor
+six_letters = start (codes "abcdef") 2 20
+
+-- from b to d
+pub b_c_and_d_are_taken : DragsTakeBoth → region (after six_letters (Point 1 2 ∷ Drag 1 4 ∷ [])) ≡ (1, 4)
+unfolding unicode_segmentation unicode_width digits
+b_c_and_d_are_taken law =
+    let high : 1 ≤ 1 = omega arith in
+    (law tables six_letters 1 2 1 4 refl (λ over. cc over) refl (λ fresh. cc fresh) high high (λ same. let e : 1 ≡ 3 = same in cc e)).on
+
+pub back_on_b_it_is_taken_alone : DragsTakeBoth → region (after six_letters (Point 1 2 ∷ Drag 1 4 ∷ Drag 1 2 ∷ [])) ≡ (1, 2)
+unfolding unicode_segmentation unicode_width digits
+back_on_b_it_is_taken_alone law =
+    let high : 1 ≤ 1 = omega arith in
+    (law tables six_letters 1 2 1 4 refl (λ over. cc over) refl (λ fresh. cc fresh) high high (λ same. let e : 1 ≡ 3 = same in cc e)).alone

@@ -36,7 +36,7 @@ use Rattle.bx_editor.specs.questions.Answers.{is_line_letter}
 use Rattle.bx_editor.specs.questions.KeyLetters.{code_letter}
 use Rattle.bx_editor.specs.questions.Names.{coded, is_code_letter}
 use Rattle.bx_editor.proofs.LinePutsLeft.{code-letter-kept}
-use Rattle.bx_editor_laws.specs.InputLaws.{KeepsPrompt, LineKeysKeepPrompt, StaysAsked, is_enter, is_of_line}
+use Rattle.bx_editor_laws.specs.InputLaws.{KeepsPrompt, LineKeysKeepPrompt, is_enter, is_of_line}
 use Rattle.bx_editor_laws.proofs.KeyEnds.{user-key}
 use Rattle.bx_editor_laws.proofs.LineKept.{in-line-keeps}
 use Rattle.std.proofs.lemmas.Bool.{not-true}
@@ -260,7 +260,7 @@ module _ (d : Data) (fault : Option StoreFault) (e : Editor) (line : List ℕ) (
   pressed key one accepted keeps =
       subst (KeepsPrompt e) (sym (user-key d fault e key settled one accepted))
       (left key (after_any d fault (before e) e.prompt e.search_state (cleared e) key)
-       (any d fault (before e) (cleared e) key e.prompt e.search_state line shown keeps))
+      (any d fault (before e) (cleared e) key e.prompt e.search_state line shown keeps))
 
   pasting : KeepsPrompt e (unpressed (with_typing e typings.Paste))
   pasting = same e (unpressed (with_typing e typings.Paste)) refl refl refl

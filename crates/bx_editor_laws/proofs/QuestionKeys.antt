@@ -399,9 +399,11 @@ put-leaves d e on =
     (in-line-keeps d (IsLeftIn e) (record {
       cleared = λ x h.
           (leaves-trans e x (cleared x) h.0 (record { content = refl; pasted = refl; place = refl; held = refl; looked = refl; hard = λ h. (refl, h) }), h.1);
-      told = λ x h.
-          (leaves-trans e x (record x { message = Some messages.NothingToPut }) h.0
-          (record { content = refl; pasted = refl; place = refl; held = refl; looked = refl; hard = λ h. (refl, h) }), h.1);
+      told = λ x h. (
+        leaves-trans e x (record x { message = Some messages.NothingToPut }) h.0
+            (record { content = refl; pasted = refl; place = refl; held = refl; looked = refl; hard = λ h. (refl, h) }),
+        h.1,
+      );
       typed = λ x c inside h.
           let one = in-line-letter d x.prompt x c (λ off. on (sym h.1 ∙ off)) inside in
           (leaves-trans e x (typed_in d x.prompt x.search_state x c) h.0 one.0, one.1 ∙ h.1);

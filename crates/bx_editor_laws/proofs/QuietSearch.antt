@@ -1,6 +1,6 @@
 -- What a key does outside a search neither asks for another text nor shows a match.
 use Rattle.std.proofs.Common.{◌≡◌, Bool, true, false, length, refl, if◌then◌else◌}
-use Rattle.std.specs.Prelude.{◌==◌, Option, Some, None}
+use Rattle.std.specs.Prelude.{◌==◌, Option}
 use Rattle.bx_store.specs.declared.store.StoreFault.{StoreFault}
 use Rattle.bx_ucd.specs.Data.{Data}
 use Rattle.bx_editor.specs.declared.search_state.SearchPurpose.TheVariants.{Find}

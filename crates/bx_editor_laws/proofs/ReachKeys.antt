@@ -1,8 +1,8 @@
 -- Each key leaves the stored text in reach of undo and redo, unless it stores another one, or an edit drops it.
-use Rattle.std.proofs.Common.{◌≡◌, ◌∙◌, ℕ, ◌≤◌, Bool, true, false, List, [], ◌∷◌, length, refl, sym, ap, subst, inl, inr, if◌then◌else◌}
-use Rattle.std.specs.Prelude.{◌&&◌, ◌||◌, ◌==◌, not, Option, Some, None, is_none, is_some}
+use Rattle.std.proofs.Common.{◌≡◌, ◌∙◌, ℕ, Bool, true, false, List, [], ◌∷◌, refl, sym, ap, subst, inl, inr, if◌then◌else◌}
+use Rattle.std.specs.Prelude.{◌&&◌, Option, Some, None, is_none, is_some}
 use Rattle.bx_keys.specs.declared.key.Key.{Key}
-use Rattle.bx_keys.specs.declared.key.Key.TheVariants.{Delete, Erase, ErasePoint, Fill, Insert, NewLine, Notice, PasteEnd, PasteStart, Repaint, Replace, Size}
+use Rattle.bx_keys.specs.declared.key.Key.TheVariants.{Delete, Erase, ErasePoint, Fill, Insert, NewLine, Notice, PasteStart, Repaint, Replace, Size}
 use Rattle.bx_store.specs.declared.store.StoreFault.{StoreFault}
 use Rattle.bx_ucd.specs.Data.{Data}
 use Rattle.bx_editor.specs.declared.answer.Answer.{Answer}
@@ -13,17 +13,16 @@ use Rattle.bx_editor.specs.declared.search_state.SearchState.{SearchState}
 use Rattle.bx_editor.specs.declared.search_state.SearchState.TheVariants.{Off, Begun, Typed, WithBegun, WithTyped, Replacing}
 use Rattle.bx_editor.specs.declared.undo_groups.typing.Typing.TheVariants as typings
 use Rattle.bx_editor.specs.Answering.{answer_of, without_line}
-use Rattle.bx_editor.specs.Before.{Before, before}
-use Rattle.bx_editor.specs.Editor.{Editor, cleared, unpressed, with_notice, with_size, with_typing}
+use Rattle.bx_editor.specs.Before.{before}
+use Rattle.bx_editor.specs.Editor.{Editor, cleared, unpressed, with_typing}
 use Rattle.bx_editor.specs.Effects.{Refuses, by}
 use Rattle.bx_editor.specs.Keys.{after_any, after_key, after_press, after_user, answered_overwrite, answered_question, ends_name, ends_paste, is_save}
 use Rattle.bx_editor.specs.Keys.{overwrites, refuses_replacing, saving_by, saving_of}
-use Rattle.bx_editor.specs.Putting.{after_paste_end, after_paste_start, paste_ended}
+use Rattle.bx_editor.specs.Putting.{paste_ended}
 use Rattle.bx_editor.specs.Saving.{Saving, can_save, own_saving, saving_over, saving_under}
 use Rattle.bx_editor.proofs.EffectsKept as kept
 use Rattle.bx_editor.proofs.InSearch.{each-key}
 use Rattle.bx_editor_laws.specs.Laws.{after_typing}
-use Rattle.bx_editor_laws.specs.RunLaws.{saving_editor}
 use Rattle.bx_editor_laws.specs.StoredLaws.{KeepsInReach, StaysInReach, may_edit, stores}
 use Rattle.bx_editor_laws.proofs.InReach.{InPast, InReach, ended, file-letter, is_typed, name, overwriting, pressed, query, question, question-letter, replacement}
 use Rattle.bx_editor_laws.proofs.InReach.{shown, typed-key}
@@ -108,9 +107,10 @@ module _ (n : ℕ) (d : Data) (fault : Option StoreFault) where
   settled-stays x settled h key =
       each-key d fault x
       (λ k new. (may_edit k ≡ true → InPast n d x) → (is_some (saving_of x k) && is_none fault) ≡ false → InReach n d new)
-      (λ height width p fails. h) (λ notice p fails. h) (λ p fails. h)
-      (λ p fails. kept.start-keeps (InReach n d) pastes x h,
-       λ p fails. subst (λ (y : Editor). InReach n d (unpressed (with_typing y typings.Off))) (sym (none-ended d x settled)) h)
+      (λ height width p fails. h) (λ notice p fails. h) (λ p fails. h) (
+        λ p fails. kept.start-keeps (InReach n d) pastes x h,
+        λ p fails. subst (λ (y : Editor). InReach n d (unpressed (with_typing y typings.Off))) (sym (none-ended d x settled)) h,
+      )
       (λ k small p fails.
       subst (λ pasted. InReach n d (after_press d fault pasted x k)) (sym settled)
       (user x k h p (ap (λ saving. is_some saving && is_none fault) (sym (saving-settled x k settled)) ∙ fails))) key

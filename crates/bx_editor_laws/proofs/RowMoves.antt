@@ -177,7 +177,7 @@ module _ (d : Data) (e : Editor) (off : e.search_state ≡ Off) (settled : e.pas
         place = rows_away e.width (rows d e) way t g e.place;
         mark = m.0;
         soft = m.1;
-            typing = typings.Off;
+        typing = typings.Off;
         message = None;
         quit_before = false;
         goal = Some g;

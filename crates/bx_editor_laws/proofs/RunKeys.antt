@@ -1,5 +1,5 @@
 -- UndoRun and RedoRun: how many steps they make, and where they lead.
-use Rattle.std.proofs.Common.{◌≡◌, ℕ, zero, suc, ◌+◌, ◌-◌, ◌≤◌, Bool, true, false, List, [], ◌∷◌, length, take, map, replicate, refl, sym, ap}
+use Rattle.std.proofs.Common.{◌≡◌, ℕ, zero, suc, ◌+◌, ◌-◌, ◌≤◌, Bool, true, List, [], ◌∷◌, length, take, map, replicate, refl, sym, ap}
 use Rattle.std.proofs.Common.{ap₂, ◌∙◌, arith}
 use Rattle.std.specs.Prelude.{Some, None}
 use Rattle.std.specs.Fn.{iterate}
@@ -17,7 +17,7 @@ use Rattle.bx_editor.specs.declared.questions.answers.Prompt.TheVariants as prom
 use Rattle.bx_editor.specs.declared.search_state.SearchState.TheVariants as search_states
 use Rattle.bx_editor.specs.declared.cursor.Soft.TheVariants as softness
 use Rattle.bx_editor.specs.Asking.{without_prompt}
-use Rattle.bx_editor.specs.Editor.{Editor, after_step, cleared, with_step, after_group_step, by_group, is_changed_at, group_goal, group_length}
+use Rattle.bx_editor.specs.Editor.{Editor, cleared, with_step, after_group_step, by_group, is_changed_at, group_goal, group_length}
 use Rattle.bx_editor.specs.Keys.{after_key, as_left}
 use Rattle.bx_editor.specs.Functions.{after_keys}
 use Rattle.bx_editor_laws.specs.RunLaws.{redos, undos, IsManySteps, RunKeysAreSteps}

@@ -1,67 +1,46 @@
 -- Each key leaves the stored text, or stores its own: so what counts as unchanged is the text that was stored last.
-use Rattle.std.proofs.Common.{◌≡◌, ◌∙◌, ℕ, ◌+◌, Bool, true, false, List, [], ◌∷◌, length, refl, sym, ap, subst, arith, if◌then◌else◌}
-use Rattle.std.specs.Prelude.{◌&&◌, ◌||◌, ◌==◌, not, chars, encode_utf8, Option, Some, None, is_none, is_some}
+use Rattle.std.proofs.Common.{◌≡◌, ◌∙◌, ℕ, Bool, true, false, List, [], ◌∷◌, length, refl, sym, ap, subst, if◌then◌else◌}
+use Rattle.std.specs.Prelude.{◌&&◌, ◌||◌, ◌==◌, not, Option, Some, None, is_some}
 use Rattle.std.proofs.lemmas.Bool.{not-true}
-use Rattle.std.proofs.lemmas.Bool.Decides.{nat_tests}
 use Rattle.bx_common.specs.declared.base.Base.{Base}
 use Rattle.bx_keys.specs.declared.key.Key.{Key}
 use Rattle.bx_keys.specs.declared.key.Key.TheVariants.{Fill, Insert, Notice, PasteEnd, PasteStart, Repaint, Replace, Save, Size}
-use Rattle.bx_store.specs.declared.cause.SaveCause.{SaveCause}
 use Rattle.bx_store.specs.declared.store.StoreFault.{StoreFault}
-use Rattle.bx_text.specs.declared.change.Change.{Change}
-use Rattle.bx_text.specs.Edits.{Edit, Edited, fits, fits_both, inserted, splice}
-use Rattle.bx_text.specs.index.Paragraphs.{is_separator}
-use Rattle.bx_document.specs.History.{stepped_times}
-use Rattle.bx_document.specs.declared.history.HistoryStep.{HistoryStep}
-use Rattle.bx_document.specs.declared.history.HistoryStep.TheVariants as steps
 use Rattle.bx_ucd.specs.Data.{Data}
-use Rattle.bx_view.specs.declared.moves.Vertical.{Vertical}
-use Rattle.bx_view.specs.Moves.{row_home}
 use Rattle.bx_editor.specs.declared.answer.Answer.{Answer}
 use Rattle.bx_editor.specs.declared.answer.Answer.TheVariants as answers
 use Rattle.bx_editor.specs.declared.input_line.Erasure.{Erasure}
 use Rattle.bx_editor.specs.declared.questions.answers.Prompt.{Prompt}
 use Rattle.bx_editor.specs.declared.questions.answers.Prompt.TheVariants as prompts
-use Rattle.bx_editor.specs.declared.questions.line.Target.{Target}
-use Rattle.bx_editor.specs.declared.search_state.SearchPurpose.TheVariants as purposes
-use Rattle.bx_editor.specs.declared.message.Message.TheVariants as messages
 use Rattle.bx_editor.specs.declared.search_state.SearchState.{SearchState}
 use Rattle.bx_editor.specs.declared.search_state.SearchState.TheVariants.{Off, Begun, Typed, WithBegun, WithTyped, Replacing}
-use Rattle.bx_editor.specs.declared.undo_groups.typing.Typing.{Typing}
-use Rattle.bx_editor.specs.declared.undo_groups.typing.Typing.TheVariants as typings
 use Rattle.bx_editor.specs.Answering.{answer_of, without_line}
-use Rattle.bx_editor.specs.Asking.{after_answer_letter, after_code, after_erasing_answer, after_going, after_name_key, after_name_letter, after_named}
-use Rattle.bx_editor.specs.Asking.{after_wrapping, answer_lengthened, answer_line, asking, gone_to, is_code_prompt, is_of_last, longest_code, longest_line}
-use Rattle.bx_editor.specs.Asking.{spans_lines, with_answer, with_character, with_wrap, without_prompt}
+use Rattle.bx_editor.specs.Asking.{after_answer_letter, after_erasing_answer, after_name_key}
+use Rattle.bx_editor.specs.Asking.{answer_line, is_code_prompt, is_of_last}
+use Rattle.bx_editor.specs.Asking.{with_answer, without_prompt}
 use Rattle.bx_editor.specs.Before.{Before, before}
-use Rattle.bx_editor.specs.Editor.{Editor, after_redo, after_step, after_undo, at_start, by_group, cleared, group_goal, group_length, is_changed_at}
-use Rattle.bx_editor.specs.Editor.{place_after, rows, stored_behind, with_exchange, with_insertion, with_notice, with_removal, with_size, with_typing}
-use Rattle.bx_document.specs.History.{next_changes}
-use Rattle.bx_editor.specs.Effects.{Effect, Wheels, Seeks, SeeksNext, SeeksPrevious, Saves, AsksLine, AsksName, AsksFile, AsksOverwrite, Refuses, by}
-use Rattle.bx_editor.specs.InputLines.{after_taking, ends_line, erases_nothing, is_no_letter, line_shortened}
-use Rattle.bx_editor.specs.Keys.{after_any, after_key, after_pressing, allowed_effect, answered, answered_match, answered_name, answered_overwrite}
-use Rattle.bx_editor.specs.Keys.{answered_question, answered_replacement, as_left, changes_text, effect_of, ends_name, ends_paste, is_save, is_typed, overwrites}
-use Rattle.bx_editor.specs.Keys.{after_in_paste, after_press, after_user, refuses_replacing, saving_by, saving_of}
-use Rattle.bx_editor.specs.LinePuts.{after_line_put, typed_in}
-use Rattle.bx_editor.specs.Putting.{after_paste_end, after_paste_start, is_paste, paste_ended, with_line_put}
-use Rattle.bx_editor.specs.Region.{is_empty, line, region, unselected}
-use Rattle.bx_editor.specs.RowMoves.{after_wheel, carried, shows_place, wheel_top}
-use Rattle.bx_editor.specs.Saving.{Saving, after_deciding, after_naming, after_save, after_saving, asked_over, asking_name, asking_over, can_save, confirms, is_changed}
-use Rattle.bx_editor.specs.Saving.{is_nameless, longest_name, own_saving, saving_over, saving_under, takes_name, with_answered_name, without_answer}
-use Rattle.bx_editor.specs.Search.{after_beginning, next_or_start, search_back, search_from, sought, sought_alone, without_search}
-use Rattle.bx_editor.specs.questions.Answers.{asked, is_line_letter}
-use Rattle.bx_editor.specs.questions.KeyLetters.{code_letter, name_letter}
-use Rattle.bx_editor.specs.questions.Names.{asks_code, closing, coded, is_code_letter, named}
+use Rattle.bx_editor.specs.Editor.{Editor, at_start, cleared}
+use Rattle.bx_editor.specs.Editor.{with_notice, with_size, with_typing}
+use Rattle.bx_editor.specs.Effects.{Refuses, by}
+use Rattle.bx_editor.specs.InputLines.{after_taking, erases_nothing, line_shortened}
+use Rattle.bx_editor.specs.Keys.{after_any, after_key, after_pressing, answered, answered_match, answered_name, answered_overwrite}
+use Rattle.bx_editor.specs.Keys.{answered_question, answered_replacement, ends_name, ends_paste, is_save, is_typed, overwrites}
+use Rattle.bx_editor.specs.Keys.{after_press, after_user, refuses_replacing, saving_by, saving_of}
+use Rattle.bx_editor.specs.LinePuts.{after_line_put}
+use Rattle.bx_editor.specs.Putting.{after_paste_end, after_paste_start, is_paste, paste_ended}
+use Rattle.bx_editor.specs.RowMoves.{after_wheel}
+use Rattle.bx_editor.specs.Saving.{Saving, can_save, confirms}
+use Rattle.bx_editor.specs.Saving.{is_nameless, own_saving, saving_over, saving_under}
+use Rattle.bx_editor.specs.Search.{without_search}
+use Rattle.bx_editor.specs.questions.KeyLetters.{name_letter}
+use Rattle.bx_editor.specs.questions.Names.{named}
 use Rattle.bx_editor_laws.specs.Laws.{after_typing}
 use Rattle.bx_editor_laws.specs.RunLaws.{saving_editor, stored_by, stored_last, UnchangedIsStored}
-use Rattle.bx_editor_laws.proofs.Chains.{Chain, opened-chain, redone-chain, replaced-chain, stored-chain, undone-chain}
-use Rattle.bx_editor_laws.proofs.LineKept.{in-line-keeps}
+use Rattle.bx_editor_laws.proofs.Chains.{opened-chain}
 use Rattle.bx_editor_laws.proofs.PasteEnded.{ends-first, over}
 use Rattle.bx_editor.proofs.EffectsKept as kept
 use Rattle.bx_editor.proofs.InSearch.{each-key}
-use Rattle.bx_editor.proofs.Searches.{IsKeptSeeking, is_end, match-keeps, query-keeps, replacement-keeps, typed-in-search}
-use Rattle.bx_editor.proofs.TwoEdits.{stored-of-two}
-use Rattle.bx_editor.proofs.RunSteps.{run-ends}
+use Rattle.bx_editor.proofs.Searches.{is_end, match-keeps, query-keeps, replacement-keeps}
 use Rattle.bx_editor_laws.proofs.StoredText.{Has, either, no-save, pressed, pressed-other, seeks, wheel, pressing, deciding, letter, line-put, name-letter, taking}
 use Rattle.bx_editor_laws.proofs.StoredText.{file, stored_if}
 
@@ -109,7 +88,7 @@ module _ (s : List ℕ) (d : Data) (fault : Option StoreFault) (was : Before) (e
   at-match one it =
       none (answered_match d fault was e key one) it
       (match-keeps d (Has s) (seeks s d) fault was e key one h h
-       (λ ends. pressed-other s d fault was (without_search e) key (not-true (is_save key) it) h) (λ way. wheel s d was e way h))
+      (λ ends. pressed-other s d fault was (without_search e) key (not-true (is_save key) it) h) (λ way. wheel s d was e way h))
 
   -- in a question
   erased : (how : Erasure) → Has s (after_erasing_answer d e.prompt e how)
@@ -236,7 +215,7 @@ module _ (s : List ℕ) (d : Data) (fault : Option StoreFault) (x : Editor) (key
 
   user-by : (b : Bool) → refuses_replacing x key ≡ b
       → StoredBy (saving_by x x.prompt key (answer_of key))
-        (if b then by d fault (before x) e Refuses else after_any d fault (before x) x.prompt x.search_state e key)
+      (if b then by d fault (before x) e Refuses else after_any d fault (before x) x.prompt x.search_state e key)
   user-by true is = refused key is
   user-by false is = any x.prompt x.search_state refl
 
@@ -301,9 +280,10 @@ module _ (s : List ℕ) (d : Data) (fault : Option StoreFault) where
       each-key d fault x (λ k new. Has (stored_if (is_some (saving_of x k)) s x fault) new)
       (λ height width. told x (Size height width) (with_size x height width) refl refl h)
       (λ notice. told x (Notice notice) (with_notice x notice) refl refl h)
-      (told x Fill x refl refl h)
-      (told x PasteStart (after_paste_start x) refl refl (kept.start-keeps (Has s) pastes x h),
-       told x PasteEnd (after_paste_end d x) refl refl (kept.paste-end-keeps d (Has s) (pressing s d) pastes x h))
+      (told x Fill x refl refl h) (
+        told x PasteStart (after_paste_start x) refl refl (kept.start-keeps (Has s) pastes x h),
+        told x PasteEnd (after_paste_end d x) refl refl (kept.paste-end-keeps d (Has s) (pressing s d) pastes x h),
+      )
       (λ k small.
       subst (λ p. Has (stored_if (is_some (saving_of x k)) s x fault) (after_press d fault p x k)) (sym settled)
       (subst (λ saving. Has (stored_if (is_some saving) s x fault) (after_user d fault x k)) (sym (saving-settled x k settled)) (user s d fault x k h)))

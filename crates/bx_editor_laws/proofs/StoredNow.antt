@@ -1,6 +1,6 @@
 -- A key that stores the text leaves the number of its edits.
 use Rattle.std.proofs.Common.{◌≡◌, ◌∙◌, ℕ, Bool, true, false, List, length, refl, sym, ap, subst, if◌then◌else◌}
-use Rattle.std.specs.Prelude.{◌&&◌, ◌||◌, ◌==◌, not, Option, Some, None, is_none, is_some}
+use Rattle.std.specs.Prelude.{◌&&◌, ◌||◌, ◌==◌, not, Option, Some, None, is_some}
 use Rattle.bx_keys.specs.declared.key.Key.{Key}
 use Rattle.bx_keys.specs.declared.key.Key.TheVariants.{Insert, NewLine, Save}
 use Rattle.bx_ucd.specs.Data.{Data}
@@ -18,10 +18,10 @@ use Rattle.bx_editor.specs.Before.{Before, before}
 use Rattle.bx_editor.specs.Editor.{Editor, cleared, with_typing}
 use Rattle.bx_editor.specs.Effects.{Refuses, Saves, by}
 use Rattle.bx_editor.specs.InputLines.{after_taking, is_no_letter}
-use Rattle.bx_editor.specs.Keys.{after_any, after_key, after_press, after_pressing, after_user, answered_overwrite, answered_question, ends_name, ends_paste, is_save, is_typed}
+use Rattle.bx_editor.specs.Keys.{after_any, after_key, after_press, answered_overwrite, answered_question, ends_name, ends_paste, is_save, is_typed}
 use Rattle.bx_editor.specs.Keys.{overwrites, saving_by, saving_of}
 use Rattle.bx_editor.specs.Putting.{is_paste, paste_ended}
-use Rattle.bx_editor.specs.Saving.{Saving, after_naming, after_save, asking_name, can_save, confirms, is_nameless, longest_name, own_saving, saving_over}
+use Rattle.bx_editor.specs.Saving.{Saving, after_save, asking_name, can_save, confirms, is_nameless, longest_name, own_saving, saving_over}
 use Rattle.bx_editor.specs.Saving.{saving_under, takes_name, with_answered_name, without_answer}
 use Rattle.bx_editor.specs.Search.{without_search}
 use Rattle.bx_editor_laws.specs.RunLaws.{saving_editor}
@@ -83,9 +83,9 @@ file d typings.Spent e c is = absurd (no-name (c == 0xA) (length e.answer == 0) 
 decided : (e : Editor) (typing : Typing) (pasted confirmed reads nameless : Bool) → (confirmed && not pasted && not (reads || nameless)) ≡ true
     → let x = without_prompt e in
     IsStored (
-      if pasted
-      then with_typing e typing
-      else (if confirmed then (if reads then record x { message = Some messages.ViewOnly } else (if nameless then asking_name x else after_save x None)) else x)
+    if pasted
+    then with_typing e typing
+    else (if confirmed then (if reads then record x { message = Some messages.ViewOnly } else (if nameless then asking_name x else after_save x None)) else x)
     )
 decided e typing false true false false is = refl
 decided e typing true true reads nameless is = absurd (cc is)
@@ -150,7 +150,7 @@ module _ (d : Data) (x : Editor) where
   letter-by key c means plain prompts.File search_state asked is =
       subst (λ a. IsStored (answered_question d None (before x) e key a)) (sym means)
       (subst (λ p. IsStored (after_taking d x.typing c e (after_answer_letter d None p e c))) (sym asked)
-       (file d x.typing e c (at-some (ends_name x c) (saving_under x x.answer) is)))
+      (file d x.typing e c (at-some (ends_name x c) (saving_under x x.answer) is)))
   letter-by key c means plain prompts.Overwrite search_state asked is =
       subst (λ a. IsStored (answered_overwrite None (before x) e a)) (sym means)
       (decided e x.typing (is_paste x.typing) (confirms c) e.read_only (is_nameless e) (at-some (overwrites x c) (saving_over x) is))

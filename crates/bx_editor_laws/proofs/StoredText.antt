@@ -1,12 +1,10 @@
 -- Whatever is typed, past and future stay chains of texts, and what counts as unchanged is the text that was stored last.
 use Rattle.std.proofs.Common.{◌≡◌, ◌∙◌, ℕ, ◌+◌, Bool, true, false, List, [], ◌∷◌, length, refl, sym, ap, subst, arith, if◌then◌else◌}
-use Rattle.std.specs.Prelude.{◌&&◌, ◌||◌, ◌==◌, not, chars, encode_utf8, Option, Some, None, is_none, is_some}
+use Rattle.std.specs.Prelude.{◌&&◌, ◌||◌, ◌==◌, not, chars, encode_utf8, Option, Some, None, is_none}
 use Rattle.std.proofs.lemmas.Bool.{not-true}
 use Rattle.std.proofs.lemmas.Bool.Decides.{nat_tests}
-use Rattle.bx_common.specs.declared.base.Base.{Base}
 use Rattle.bx_keys.specs.declared.key.Key.{Key}
-use Rattle.bx_keys.specs.declared.key.Key.TheVariants.{Fill, Insert, Notice, PasteEnd, PasteStart, Repaint, Replace, Save, Size}
-use Rattle.bx_store.specs.declared.cause.SaveCause.{SaveCause}
+use Rattle.bx_keys.specs.declared.key.Key.TheVariants.{Save}
 use Rattle.bx_store.specs.declared.store.StoreFault.{StoreFault}
 use Rattle.bx_text.specs.declared.change.Change.{Change}
 use Rattle.bx_text.specs.Edits.{Edit, Edited, fits, fits_both, inserted, splice}
@@ -17,48 +15,40 @@ use Rattle.bx_document.specs.declared.history.HistoryStep.TheVariants as steps
 use Rattle.bx_ucd.specs.Data.{Data}
 use Rattle.bx_view.specs.declared.moves.Vertical.{Vertical}
 use Rattle.bx_view.specs.Moves.{row_home}
-use Rattle.bx_editor.specs.declared.answer.Answer.{Answer}
-use Rattle.bx_editor.specs.declared.answer.Answer.TheVariants as answers
-use Rattle.bx_editor.specs.declared.input_line.Erasure.{Erasure}
 use Rattle.bx_editor.specs.declared.questions.answers.Prompt.{Prompt}
 use Rattle.bx_editor.specs.declared.questions.answers.Prompt.TheVariants as prompts
 use Rattle.bx_editor.specs.declared.questions.line.Target.{Target}
 use Rattle.bx_editor.specs.declared.search_state.SearchPurpose.TheVariants as purposes
 use Rattle.bx_editor.specs.declared.message.Message.TheVariants as messages
 use Rattle.bx_editor.specs.declared.search_state.SearchState.{SearchState}
-use Rattle.bx_editor.specs.declared.search_state.SearchState.TheVariants.{Off, Begun, Typed, WithBegun, WithTyped, Replacing}
 use Rattle.bx_editor.specs.declared.undo_groups.typing.Typing.{Typing}
 use Rattle.bx_editor.specs.declared.undo_groups.typing.Typing.TheVariants as typings
-use Rattle.bx_editor.specs.Answering.{answer_of, without_line}
-use Rattle.bx_editor.specs.Asking.{after_answer_letter, after_code, after_erasing_answer, after_going, after_name_key, after_name_letter, after_named}
-use Rattle.bx_editor.specs.Asking.{after_wrapping, answer_lengthened, answer_line, asking, gone_to, is_code_prompt, is_of_last, longest_code, longest_line}
-use Rattle.bx_editor.specs.Asking.{spans_lines, with_answer, with_character, with_wrap, without_prompt}
-use Rattle.bx_editor.specs.Before.{Before, before}
-use Rattle.bx_editor.specs.Editor.{Editor, after_redo, after_step, after_undo, at_start, by_group, cleared, group_goal, group_length, is_changed_at}
-use Rattle.bx_editor.specs.Editor.{place_after, rows, stored_behind, with_exchange, with_insertion, with_notice, with_removal, with_size, with_typing}
+use Rattle.bx_editor.specs.Asking.{after_answer_letter, after_code, after_going, after_name_letter, after_named}
+use Rattle.bx_editor.specs.Asking.{after_wrapping, answer_lengthened, asking, gone_to, longest_code, longest_line}
+use Rattle.bx_editor.specs.Asking.{spans_lines, with_character, with_wrap, without_prompt}
+use Rattle.bx_editor.specs.Before.{Before}
+use Rattle.bx_editor.specs.Editor.{Editor, after_redo, after_step, after_undo, by_group, group_goal, group_length, is_changed_at}
+use Rattle.bx_editor.specs.Editor.{place_after, rows, stored_behind, with_exchange, with_insertion, with_removal, with_typing}
 use Rattle.bx_document.specs.History.{next_changes}
 use Rattle.bx_editor.specs.Effects.{Effect, Wheels, Seeks, SeeksNext, SeeksPrevious, Saves, AsksLine, AsksName, AsksFile, AsksOverwrite, Refuses, by}
-use Rattle.bx_editor.specs.InputLines.{after_taking, ends_line, erases_nothing, is_no_letter, line_shortened}
-use Rattle.bx_editor.specs.Keys.{after_any, after_key, after_pressing, allowed_effect, answered, answered_match, answered_name, answered_overwrite}
-use Rattle.bx_editor.specs.Keys.{answered_question, answered_replacement, as_left, changes_text, effect_of, ends_name, ends_paste, is_save, is_typed, overwrites}
-use Rattle.bx_editor.specs.Keys.{after_in_paste, after_press, after_user, refuses_replacing, saving_by, saving_of}
+use Rattle.bx_editor.specs.InputLines.{after_taking, ends_line, is_no_letter}
+use Rattle.bx_editor.specs.Keys.{after_pressing, allowed_effect}
+use Rattle.bx_editor.specs.Keys.{changes_text, effect_of, is_save, is_typed}
 use Rattle.bx_editor.specs.LinePuts.{after_line_put, typed_in}
-use Rattle.bx_editor.specs.Putting.{after_paste_end, after_paste_start, is_paste, paste_ended, with_line_put}
+use Rattle.bx_editor.specs.Putting.{with_line_put}
 use Rattle.bx_editor.specs.Region.{is_empty, line, region, unselected}
 use Rattle.bx_editor.specs.RowMoves.{after_wheel, carried, shows_place, wheel_top}
-use Rattle.bx_editor.specs.Saving.{Saving, after_deciding, after_naming, after_save, after_saving, asked_over, asking_name, asking_over, can_save, confirms, is_changed}
-use Rattle.bx_editor.specs.Saving.{is_nameless, longest_name, own_saving, saving_over, saving_under, takes_name, with_answered_name, without_answer}
-use Rattle.bx_editor.specs.Search.{after_beginning, next_or_start, search_back, search_from, sought, sought_alone, without_search}
+use Rattle.bx_editor.specs.Saving.{after_naming, after_save, asking_name, can_save, is_changed}
+use Rattle.bx_editor.specs.Saving.{is_nameless, longest_name, takes_name, with_answered_name, without_answer}
+use Rattle.bx_editor.specs.Search.{after_beginning, next_or_start, search_back, search_from, sought, sought_alone}
 use Rattle.bx_editor.specs.undo_groups.Groups.{after_insertion, kind_of}
 use Rattle.bx_editor.specs.questions.Answers.{asked, is_line_letter}
-use Rattle.bx_editor.specs.questions.KeyLetters.{code_letter, name_letter}
-use Rattle.bx_editor.specs.questions.Names.{asks_code, closing, coded, is_code_letter, named}
-use Rattle.bx_editor_laws.specs.Laws.{after_typing}
-use Rattle.bx_editor_laws.proofs.Chains.{Chain, opened-chain, redone-chain, replaced-chain, stored-chain, undone-chain}
+use Rattle.bx_editor.specs.questions.KeyLetters.{code_letter}
+use Rattle.bx_editor.specs.questions.Names.{asks_code, closing, coded, is_code_letter}
+use Rattle.bx_editor_laws.proofs.Chains.{Chain, redone-chain, replaced-chain, stored-chain, undone-chain}
 use Rattle.bx_editor_laws.proofs.LineKept.{in-line-keeps}
 use Rattle.bx_editor.proofs.EffectsKept as kept
-use Rattle.bx_editor.proofs.InSearch.{each-key}
-use Rattle.bx_editor.proofs.Searches.{IsKeptSeeking, is_end, match-keeps, query-keeps, replacement-keeps, typed-in-search}
+use Rattle.bx_editor.proofs.Searches.{IsKeptSeeking, typed-in-search}
 use Rattle.bx_editor.proofs.TwoEdits.{stored-of-two}
 use Rattle.bx_editor.proofs.RunSteps.{run-ends}
 
@@ -250,9 +240,9 @@ module _ (s : List ℕ) (fault : Option StoreFault) where
   pub deciding : (e : Editor) (typing : Typing) (pasted confirmed reads nameless : Bool) → Has s e
       → let x = without_prompt e in
       Has (stored_if (confirmed && not pasted && not (reads || nameless)) s e fault) (
-        if pasted
-        then with_typing e typing
-        else (if confirmed then (if reads then record x { message = Some messages.ViewOnly } else (if nameless then asking_name x else after_save x fault)) else x)
+      if pasted
+      then with_typing e typing
+      else (if confirmed then (if reads then record x { message = Some messages.ViewOnly } else (if nameless then asking_name x else after_save x fault)) else x)
       )
   deciding e typing true true reads nameless h = h
   deciding e typing true false reads nameless h = h

@@ -1,6 +1,6 @@
 -- UndoRun and RedoRun find the stored text unchanged as long as it is in reach.
 use Rattle.std.proofs.Common.{◌≡◌, ℕ, true, false, List, [], length, replicate, refl, sym, ap, ap₂, ◌∙◌, arith, ne_eqb, inr}
-use Rattle.std.specs.Prelude.{◌≢◌, ◌==◌, ◌&&◌, not, Option, Some, None}
+use Rattle.std.specs.Prelude.{◌≢◌, ◌==◌, ◌&&◌, not, None}
 use Rattle.std.proofs.lemmas.Bool.Decides.{nat_tests}
 use Rattle.bx_keys.specs.declared.key.Key.{Key}
 use Rattle.bx_keys.specs.declared.key.Key.TheVariants.{Redo, RedoRun, Undo, UndoRun}

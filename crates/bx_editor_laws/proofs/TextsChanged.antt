@@ -127,7 +127,7 @@ typed c =
     let tab = kind_of (tables.class 0x9) in
     edited [] (Insert c) refl
     (either (c == 0x9) (typed_there (encode_utf8 0x9) tab) (typed_there (encode_utf8 c) kind) (one-more (encode_utf8 0x9) tab (room 0x9))
-     (one-more (encode_utf8 c) kind (room c)))
+    (one-more (encode_utf8 c) kind (room c)))
 
 -- ---- a cell of the window
 

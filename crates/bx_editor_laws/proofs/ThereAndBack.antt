@@ -1,5 +1,5 @@
 -- Moves from row to row by a goal, there and back.
-use Rattle.std.proofs.Common.{◌≡◌, ◌≢◌, ◌⊎◌, ⊎_elim, ℕ, zero, suc, ◌+◌, ◌-◌, ◌*◌, ◌<◌, ◌≤◌, Bool, true, false, List, [], ◌∷◌, ◌++◌, ◌==◌}
+use Rattle.std.proofs.Common.{◌≡◌, ◌⊎◌, ⊎_elim, ℕ, zero, suc, ◌+◌, ◌-◌, ◌*◌, ◌<◌, ◌≤◌, Bool, true, false, List, [], ◌∷◌, ◌++◌, ◌==◌}
 use Rattle.std.proofs.Common.{length, map, get_or, replicate}
 use Rattle.std.proofs.Common.{Some, None, unwrap_or, refl, sym, ap, ap₂, subst, cond, eq-eqb, ◌∙◌, arith}
 use Rattle.std.specs.Prelude.{Contains}

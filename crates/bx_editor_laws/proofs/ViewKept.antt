@@ -1,10 +1,9 @@
 -- A text that is only looked at stays as it was opened.
 use Rattle.std.proofs.Common.{◌≡◌, ◌∙◌, ℕ, ◌+◌, Bool, true, false, nat_le, List, [], ◌∷◌, length, Option, Some, None, refl, sym, ap, subst, if◌then◌else◌}
 use Rattle.std.specs.Prelude.{◌==◌, ◌&&◌, ◌||◌, not, min, chars, is_some}
-use Rattle.std.proofs.lemmas.Bool.{not-true}
 use Rattle.bx_keys.specs.declared.key.Key.{Key}
 use Rattle.bx_keys.specs.declared.key.Key.TheVariants.{Insert, NewLine, Erase, ErasePoint, Delete, EraseWord, DeleteWord, Cut, Put, Undo, Redo, UndoRun, RedoRun}
-use Rattle.bx_keys.specs.declared.key.Key.TheVariants.{Fill, Name as NameKey, Notice, PasteEnd, PasteStart, Replace, Save, Size}
+use Rattle.bx_keys.specs.declared.key.Key.TheVariants.{Name as NameKey, Replace, Save}
 use Rattle.bx_store.specs.declared.store.StoreFault.{StoreFault}
 use Rattle.bx_text.specs.Edits.{Edited}
 use Rattle.bx_ucd.specs.Data.{Data}
@@ -18,8 +17,6 @@ use Rattle.bx_editor.specs.declared.clicks.Extent.TheVariants as extents
 use Rattle.bx_editor.specs.declared.clicks.Pressed.{Pressed}
 use Rattle.bx_editor.specs.declared.cursor.Soft.{Soft}
 use Rattle.bx_editor.specs.declared.cursor.Soft.TheVariants as softness
-use Rattle.bx_editor.specs.declared.input_line.Erasure.{Erasure}
-use Rattle.bx_editor.specs.declared.message.Message.{Message}
 use Rattle.bx_editor.specs.declared.message.Message.TheVariants as messages
 use Rattle.bx_editor.specs.declared.questions.answers.Prompt.{Prompt}
 use Rattle.bx_editor.specs.declared.questions.answers.Prompt.TheVariants as prompts
@@ -31,21 +28,20 @@ use Rattle.bx_editor.specs.declared.search_state.SearchState.TheVariants.{Off, B
 use Rattle.bx_editor.specs.declared.undo_groups.typing.Typing.{Typing}
 use Rattle.bx_editor.specs.declared.undo_groups.typing.Typing.TheVariants as typings
 use Rattle.bx_editor.specs.Answering.{answer_of}
-use Rattle.bx_editor.specs.Asking.{after_answer_letter, after_erasing_answer, after_going, answer_lengthened, answer_line, gone_to, is_code_prompt, is_of_last, longest_line, with_answer, without_prompt}
+use Rattle.bx_editor.specs.Asking.{after_answer_letter, after_going, answer_lengthened, answer_line, gone_to, is_code_prompt, is_of_last, longest_line, with_answer, without_prompt}
 use Rattle.bx_editor.specs.Before.{Before, before}
-use Rattle.bx_editor.specs.Editor.{Editor, cleared, rows, text_height, unpressed, with_notice, with_size, with_typing}
+use Rattle.bx_editor.specs.Editor.{Editor, cleared, rows, text_height, unpressed, with_typing}
 use Rattle.bx_editor.specs.Effects.{Effect, Types, BeginsLine, Puts, Removes, RemovesWord, Steps, StepsGroup, Goes, GoesByRows, GoesToRowEnd, Clicks, Drags}
 use Rattle.bx_editor.specs.Effects.{Wheels, Marks, Selects, SelectsAll, Unmarks, Copies, Cuts, Seeks, SeeksNext, SeeksPrevious, Saves, Quits, Turns, Helps}
 use Rattle.bx_editor.specs.Effects.{AsksLine, AsksName, AsksFile, AsksOverwrite, Tells, Refuses, Rests, by}
-use Rattle.bx_editor.specs.Functions.{is_told_key}
 use Rattle.bx_editor.specs.InputLines.{after_taking, ends_line, erases_nothing, is_at_end, is_no_letter, line_lengthened, line_shortened}
 use Rattle.bx_editor.specs.Keys.{after_any, after_key, after_press, after_pressing, after_user, answered, answered_overwrite, answered_question, changes_text}
-use Rattle.bx_editor.specs.Keys.{effect_of, ends_name, is_overwrite, is_save, overwrites, refuses_replacing, saving_by, saving_of}
+use Rattle.bx_editor.specs.Keys.{effect_of, ends_name, is_overwrite, is_save, overwrites, refuses_replacing, saving_by}
 use Rattle.bx_editor.specs.LinePuts.{after_line_put, typed_in, typed_in_search}
 use Rattle.bx_editor.specs.Pointing.{after_drag, after_point, dragged_to, part_at, pointed_place, press_extent, pressed_at, pressing_with, rests_on_unit}
-use Rattle.bx_editor.specs.Pointing.{selecting_part, with_word}
+use Rattle.bx_editor.specs.Pointing.{selecting_part}
 use Rattle.bx_editor.specs.Putting.{after_paste_end, after_paste_start, ended_with, is_free, is_paste, paste_begun}
-use Rattle.bx_editor.specs.Region.{after_copy, bytes_in, held_message, is_at_mark, is_empty, is_soft, line, region, selecting, unselected, with_held}
+use Rattle.bx_editor.specs.Region.{after_copy, bytes_in, is_at_mark, is_empty, is_soft, line, region, selecting, unselected, with_held}
 use Rattle.bx_editor.specs.Region.{without_hard_mark, without_mark}
 use Rattle.bx_editor.specs.Replacing.{after_asking_replacement, after_sought_end, after_sought_letter, is_replacing}
 use Rattle.bx_editor.specs.RowMoves.{after_wheel, carried, shows_place, wheel_top}
@@ -56,7 +52,7 @@ use Rattle.bx_editor.specs.Search.{search_on, sought, sought_alone, with_query, 
 use Rattle.bx_editor.specs.questions.Answers.{asked, is_line_letter}
 use Rattle.bx_editor.proofs.InSearch.{each-key}
 use Rattle.bx_editor_laws.specs.Laws.{after_typing}
-use Rattle.bx_editor_laws.specs.ViewLaws.{IsViewed, StaysAsOpened, ViewKeepsText}
+use Rattle.bx_editor_laws.specs.ViewLaws.{ViewKeepsText}
 use Rattle.bx_editor_laws.proofs.LineKept.{in-line-keeps}
 
 -- ---- what stays
@@ -396,7 +392,7 @@ module _ (d : Data) (opened : Edited) where
         let view : Editor = record x { message = Some messages.ViewOnly } in
         either (is_paste was.typing) (with_typing e was.typing) (after_deciding fault x c) h
         (either (confirms c) (after_confirming fault x) x
-         (subst (λ b. IsView (if b then view else after_saving fault x)) (sym h.looked) (unasked e h)) (unasked e h))
+        (subst (λ b. IsView (if b then view else after_saving fault x)) (sym h.looked) (unasked e h)) (unasked e h))
     overwrite Stays = h
     overwrite _ = unasked e h
 
@@ -452,7 +448,7 @@ module _ (d : Data) (opened : Edited) where
       subst (λ r. IsView (if r && is_free e.prompt e.search_state e.pasted then unpressed (record e { message = Some messages.ViewOnly })
       else unpressed (with_typing (paste_begun e.prompt e.search_state e.pasted e) typings.Paste))) (sym h.looked)
       (subst (λ p. IsView (if true && is_free e.prompt e.search_state p then unpressed (record e { message = Some messages.ViewOnly })
-       else unpressed (with_typing (paste_begun e.prompt e.search_state p e) typings.Paste))) (sym h.settled) (begun e e.prompt e.search_state h))
+      else unpressed (with_typing (paste_begun e.prompt e.search_state p e) typings.Paste))) (sym h.settled) (begun e e.prompt e.search_state h))
 
   finished : (e : Editor) → IsView e → IsView (after_paste_end d e)
   finished e h = subst (λ p. IsView (unpressed (with_typing (ended_with d e p) typings.Off))) (sym h.settled) h

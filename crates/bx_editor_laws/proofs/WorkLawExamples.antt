@@ -140,7 +140,7 @@ a_page_on_and_back_to_the_empty_line law =
     let more : 2 < 5 = omega arith in
     let has : HasRows on_an_empty_line = record { text = (codes "abcd\n\nabcd\n\nabcd", (refl, refl)); columns = refl } in
     (law tables on_an_empty_line 1 (Column 5) (record { rows_fit = has; unsought = refl; settled = refl; unasked = refl; place = (5, omega arith, refl) })
-     entered_there).pages_below more
+    entered_there).pages_below more
 
 pub the_fifth_column_is_kept_over_empty_lines : ColumnIsKept
     → (after before_pages (LineDown ∷ PageOn ∷ PageOn ∷ PageOn ∷ PageBack ∷ [])).goal ≡ Some (Column 5)

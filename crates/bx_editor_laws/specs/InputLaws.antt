@@ -1,29 +1,21 @@
 -- Laws of what is typed at a prompt, and of the question whether to overwrite. `d` and `e` are as in Laws.antt, `new` is the editor after a
 -- key, `line` the text of the input line that the prompt shows.
-use Rattle.std.specs.Prelude.{◌≡◌, ◌≢◌, ◌⊎◌, ◌≤◌, ◌<◌, ℕ, ◌&&◌, ◌||◌, ◌==◌, not, Bool, true, false, List, [], ◌∷◌, ◌++◌, length, take, drop, chars}
-use Rattle.std.specs.Prelude.{Option, Some, None, nat_lt}
-use Rattle.bx_common.specs.declared.base.Base.TheVariants.{Auto}
+use Rattle.std.specs.Prelude.{◌≡◌, ◌≢◌, ℕ, ◌&&◌, ◌==◌, Bool, true, false, List}
+use Rattle.std.specs.Prelude.{Option, Some, None}
 use Rattle.bx_keys.specs.declared.key.Key.{Key}
 use Rattle.bx_keys.specs.declared.key.Key.TheVariants.{Insert, NewLine, Erase, ErasePoint, Delete, EraseWord, DeleteWord, Back, Forward, Left, Right, Save}
 use Rattle.bx_keys.specs.declared.key.Key.TheVariants.{WordLeft, WordRight, RowHome, RowEnd, Put, Up, Down, LineUp, LineDown, Select, Mark, Cut}
-use Rattle.bx_keys.specs.declared.key.Key.TheVariants.{PasteStart, PasteEnd, Copy, Cancel, Quit}
+use Rattle.bx_keys.specs.declared.key.Key.TheVariants.{PasteStart, PasteEnd}
 use Rattle.bx_store.specs.declared.store.StoreFault.{StoreFault}
 use Rattle.bx_ucd.specs.Data.{Data}
-use Rattle.bx_editor.specs.declared.questions.answers.Prompt.{Prompt}
 use Rattle.bx_editor.specs.declared.questions.answers.Prompt.TheVariants as prompts
-use Rattle.bx_editor.specs.declared.search_state.SearchState.{SearchState}
 use Rattle.bx_editor.specs.declared.search_state.SearchState.TheVariants as search_states
 use Rattle.bx_editor.specs.declared.undo_groups.typing.Typing.{Typing}
-use Rattle.bx_editor.specs.declared.undo_groups.typing.Typing.TheVariants as typings
-use Rattle.bx_editor.specs.Asking.{longest_code, longest_line}
-use Rattle.bx_editor.specs.Editor.{Editor, at_start}
-use Rattle.bx_editor.specs.InputLines.{input_line_of, is_no_letter}
+use Rattle.bx_editor.specs.Editor.{Editor}
+use Rattle.bx_editor.specs.InputLines.{input_line_of}
 use Rattle.bx_editor.specs.Keys.{after_key, is_typed, overwrites, saving_of}
-use Rattle.bx_editor.specs.Saving.{Saving, Over, confirms, longest_name}
-use Rattle.bx_editor.specs.Search.{longest_query}
-use Rattle.bx_editor.specs.questions.Answers.{is_line_letter, shortened}
-use Rattle.bx_editor.specs.questions.KeyLetters.{code_letter, key_letter}
-use Rattle.bx_editor.specs.questions.Names.{is_code_letter}
+use Rattle.bx_editor.specs.Saving.{Over, confirms}
+use Rattle.bx_editor.specs.questions.KeyLetters.{key_letter}
 
 -- ---- letters by their keys
 
@@ -90,65 +82,6 @@ LineKeysKeepPrompt =
     (d : Data) (fault : Option StoreFault) (e : Editor) (line : List ℕ) (key : Key)
     → input_line_of e ≡ Some line → e.pasted ≡ None → is_of_line key ≡ true → is_enter e.typing key ≡ false
     → KeepsPrompt e (after_key d fault e key)
-
--- ---- an input line is a text of one line
-
--- the line as a text of its own: in a window of 500 columns, with no direction set, and the cursor at its place
-abbrev pub as_text : Editor → List ℕ → Editor
-as_text e line = record (at_start line 2 500 Auto) { place = e.input_cursor }
-
--- a key that edits the line or moves in it as in a text: all such keys but Erase and ErasePoint
-abbrev pub is_as_in_text : Key → Bool
-is_as_in_text Delete = true
-is_as_in_text EraseWord = true
-is_as_in_text DeleteWord = true
-is_as_in_text Back = true
-is_as_in_text Forward = true
-is_as_in_text Left = true
-is_as_in_text Right = true
-is_as_in_text WordLeft = true
-is_as_in_text WordRight = true
-is_as_in_text RowHome = true
-is_as_in_text RowEnd = true
-is_as_in_text _ = false
-
--- the input line and its cursor are those of a text and its cursor
-pub record IsText (text new : Editor) : Type 0 where
-  pub line : input_line_of new ≡ Some text.content.text
-  pub cursor : new.input_cursor ≡ text.place
-
--- the query or the replacement is the latest one still: a letter begins a new one
-abbrev pub is_begun : Prompt → SearchState → Bool
-is_begun prompts.Off search_states.Begun = true
-is_begun prompts.Off search_states.WithBegun = true
-is_begun _ _ = false
-
--- the most characters of the input line
-abbrev pub room_of : Prompt → ℕ
-room_of prompts.Line = longest_line
-room_of prompts.Code = longest_code
-room_of prompts.File = longest_name
-room_of _ = longest_query
-
--- a character that the input line takes
-abbrev pub takes : Data → Prompt → ℕ → Bool
-takes d prompts.Line c = is_line_letter c
-takes d prompts.Code c = is_code_letter c
-takes d _ c = not (is_no_letter d c || (c == 0xA))
-
--- keys in the line: those above, and a character that the line takes and has room for
-pub record KeepsLine (d : Data) (e : Editor) (line : List ℕ) : Type 0 where
-  pub key : (fault : Option StoreFault) (key : Key) → is_as_in_text key ≡ true
-      → IsText (after_key d None (as_text e line) key) (after_key d fault e key)
-  pub letter : (fault : Option StoreFault) (c : ℕ) → is_begun e.prompt e.search_state ≡ false → takes d e.prompt c ≡ true
-      → length (chars line) < room_of e.prompt → is_typed e.typing ≡ true → (c == 0x9) ≡ false
-      → IsText (after_key d None (as_text e line) (Insert c)) (after_key d fault e (Insert c))
-  pub erase : (fault : Option StoreFault) → take e.input_cursor line ≢ []
-      → input_line_of (after_key d fault e Erase) ≡ Some (shortened (take e.input_cursor line) ++ drop e.input_cursor line)
-
-abbrev pub LineIsText : Type 0
-LineIsText =
-    (d : Data) (e : Editor) (line : List ℕ) → input_line_of e ≡ Some line → e.pasted ≡ None → length line ≤ 1020 → KeepsLine d e line
 
 -- ---- no Save overwrites what another program wrote
 

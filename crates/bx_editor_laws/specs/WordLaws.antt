@@ -1,6 +1,6 @@
 -- Laws of the keys that erase words. A stop is where a word begins, or where a body, a paragraph without its separator, begins (for
 -- EraseWord) or ends (for DeleteWord). `d`, `e` and `new` are as in Laws.antt.
-use Rattle.std.specs.Prelude.{◌≡◌, ℕ, ◌+◌, ◌<◌, ◌≤◌, false, ◌++◌, length, take, drop, None, IsUtf8}
+use Rattle.std.specs.Prelude.{◌≡◌, ℕ, ◌<◌, ◌≤◌, false, ◌++◌, length, take, drop, None, IsUtf8}
 use Rattle.bx_keys.specs.declared.key.Key.TheVariants.{DeleteWord, EraseWord, UndoRun}
 use Rattle.bx_ucd.specs.Data.{Data}
 use Rattle.bx_editor.specs.declared.questions.answers.Prompt.TheVariants as prompts
