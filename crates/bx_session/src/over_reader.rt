@@ -54,12 +54,7 @@ pub fn run_recorded<D: BidiData + Drop, R: Read, J: Journal + Drop, W: Write, S:
     ensures ends { EndsWith result session.new.session (R.remaining reader.new) }
     ensures limit { IsErrOf result RunFault.ReadLimit → HasRead limit (R.remaining reader.old) (R.remaining reader.new) }
 {
-    let mut device = Wired {
-        reader,
-        recorder,
-        writer,
-        store,
-    };
+    let mut device = Wired::new(reader, recorder, writer, store);
     run_wired(limit, &mut device, session)
 }
 

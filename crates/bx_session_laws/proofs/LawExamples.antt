@@ -161,6 +161,7 @@ is_fed = (
 )
 
 no_change : FindsNoChange tables (start (codes "x") 1 5) (storing []) (unpainted input) (of_x input) (storing (codes "ax")) is_fed
+unfolding is_fed
 no_change = (λ saves. refl, (λ saves. refl, (λ saves. refl, (λ saves. refl, tt))))
 
 has_text : text_of (of_x input) ≡ codes "ax"

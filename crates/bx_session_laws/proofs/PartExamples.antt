@@ -1,5 +1,5 @@
 -- Worked examples of the laws of parts and of a store in memory, each from a law alone.
-use Rattle.std.proofs.Common.{◌≡◌, ℕ, zero, suc, ◌<◌, List, [], ◌∷◌, ◌++◌, refl, arith}
+use Rattle.std.proofs.Common.{◌≡◌, ℕ, zero, suc, ◌<◌, List, [], ◌∷◌, ◌++◌, Some, None, refl, arith}
 use Rattle.std.specs.Prelude.{◌≢◌, codes}
 use Rattle.std.proofs.lemmas.List.Elements.{All-head, All-tail}
 use Rattle.bx_keys.specs.declared.key.Key.{Key}
@@ -47,9 +47,13 @@ the_first_part_ends_behind_quit law = two_of_it (part_length [] quit_between) (l
 -- ---- a store in memory
 
 pub both_puts_are_stored : MemoryStoresWholeSaves → (s : MemoryState)
-    → (after_commit (begun ((2, codes "ab") ∷ (3, codes "c") ∷ []) s)).contents ≡ codes "abc"
-both_puts_are_stored law s = (law s ((2, codes "ab") ∷ (3, codes "c") ∷ [])).stored
+    → (after_commit (begun None ((2, codes "ab") ∷ (3, codes "c") ∷ []) s)).contents ≡ codes "abc"
+both_puts_are_stored law s = (law s None ((2, codes "ab") ∷ (3, codes "c") ∷ [])).stored
 
 pub a_failed_save_stores_nothing : MemoryStoresWholeSaves → (s : MemoryState) (fault : StoreFault)
-    → (after_failure fault (begun ((2, codes "ab") ∷ []) s)).contents ≡ s.contents
-a_failed_save_stores_nothing law s fault = (law s ((2, codes "ab") ∷ [])).failed fault
+    → (after_failure fault (begun None ((2, codes "ab") ∷ []) s)).contents ≡ s.contents
+a_failed_save_stores_nothing law s fault = (law s None ((2, codes "ab") ∷ [])).failed fault
+
+pub a_save_under_a_name_leaves_what_was_there : MemoryStoresWholeSaves → (s : MemoryState)
+    → (after_commit (begun (Some (codes "n")) ((2, codes "ab") ∷ []) s)).elsewhere ≡ s.elsewhere ++ record { name = s.name; text = s.contents } ∷ []
+a_save_under_a_name_leaves_what_was_there law s = (law s (Some (codes "n")) ((2, codes "ab") ∷ [])).elsewhere

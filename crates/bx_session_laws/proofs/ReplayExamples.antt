@@ -168,9 +168,11 @@ and_an_undo_leads_back = refl
 abbrev nameless : List ℕ → Editor
 nameless bytes = (after_journal tables (with_settings tables (start [] 2 40) (record plain { name = Some [] })) bytes).editor
 
+abbrev answered : List ℕ → List ℕ × Option (List ℕ) × Bool × Prompt
+answered bytes = let e = nameless bytes in (e.content.text, e.name, e.home, e.prompt)
+
 -- x, Save, n, Enter, y, Save and z: the first Save asks for the name, and the second one stores nothing either
-pub an_answer_is_the_name : let e = nameless (codes "x" ++ 0x13 ∷ codes "n" ++ 0xA ∷ codes "y" ++ 0x13 ∷ codes "z") in
-    (e.content.text, e.name, e.home, e.prompt) ≡ (codes "xyz", Some (codes "n"), false, prompts.Off)
+pub an_answer_is_the_name : answered (codes "x" ++ 0x13 ∷ codes "n" ++ 0xA ∷ codes "y" ++ 0x13 ∷ codes "z") ≡ (codes "xyz", Some (codes "n"), false, prompts.Off)
 unfolding unicode_segmentation unicode_width digits
 an_answer_is_the_name = refl
 

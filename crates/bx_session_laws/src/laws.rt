@@ -57,6 +57,7 @@ pub fn parts_end_at_quits()
 {}
 
 /// A store in memory has what was put between the begin and the commit of the latest save that succeeded; a failed call stores nothing.
+/// After a save under a new name, what the store had before stays under the name before.
 pub fn memory_stores_whole_saves()
     ensures { MemoryStoresWholeSaves }
 {}
