@@ -17,6 +17,7 @@ use Rattle.bx_store.specs.Stores.{no_faults}
 use Rattle.bx_store.specs.Faults.{greatest}
 use Rattle.bx_store.specs.declared.store.StoreFault.{StoreFault}
 use Rattle.bx_editor.specs.Editor.{Editor, rows}
+use Rattle.bx_editor.specs.Keys.{after_key}
 use Rattle.bx_editor.specs.Picture.{picture}
 use Rattle.bx_editor.specs.Settings.{plain}
 use Rattle.bx_editor.specs.Status.{input_column}
@@ -25,10 +26,10 @@ use Rattle.bx_session.specs.Session.{StoreState, Session, needs_painting}
 use Rattle.bx_session.proofs.Computed.{start}
 use Rattle.bx_world.specs.declared.step.Step.TheVariants.{Byte, Send, Read}
 use Rattle.bx_world.specs.Events.{Event, AreEvents, AreEventsFrom, Input, after_events, after_save_of, failed_saves, input_of, keys_of, stored_after_all}
-use Rattle.bx_world.specs.Headline.{HeadlineFromOpening, opened_by}
+use Rattle.bx_world.specs.Headline.{Headline, HeadlineFromOpening, opened_by}
 use Rattle.bx_world.specs.Following.{Follows}
 use Rattle.bx_world.specs.Reading.{PlaysReading, SeesPromised}
-use Rattle.bx_world.specs.Runs.{begins_at}
+use Rattle.bx_world.specs.Runs.{Schedule, begins_at}
 use Rattle.bx_world.specs.Showing.{picture_of, unread}
 use Rattle.bx_world.specs.World.{World, after_send, around}
 use Rattle.bx_world.proofs.Woven.{ok}
@@ -109,31 +110,25 @@ pub the_terminal_is_there : (store store' : StoreState) (new : World)
     → HeadlineFromOpening tables (around (opened []) 1 5) store ((Byte 0x61, ok) ∷ (Send 3, ok) ∷ (Read 3, ok) ∷ []) new store' → IsSome new.screen
 the_terminal_is_there store store' new clause = (clause [] 1 5 Auto plain false refl).1.live (refl, (refl, (refl, tt)))
 
--- ---- a search is begun in two rows of 30 columns
+-- ---- a search was begun in two rows of 30 columns
 
 abbrev sought : Editor
-sought = (opened_by tables (codes "ab") 2 30 Auto plain false).editor
+sought = after_key tables None (opened_by tables (codes "ab") 2 30 Auto plain false).editor Find
 
-query_column : (fault : Option StoreFault) → input_column tables (after_events tables sought (Input 0x17 (Some Find) true fault true ∷ [])) ≡ Some 13
+query_column : input_column tables sought ≡ Some 13
 unfolding unicode_segmentation unicode_width digits
-query_column fault = refl
+query_column = refl
 
-query_height : (fault : Option StoreFault) → (after_events tables sought (Input 0x17 (Some Find) true fault true ∷ [])).height ≡ 2
+query_height : sought.height ≡ 2
 unfolding unicode_segmentation unicode_width digits
-query_height fault = refl
+query_height = refl
 
--- the cursor is in the second row, behind what the prompt says
-pub the_cursor_is_in_the_query : (store store' : StoreState) (new : World) (row : ℕ)
-    → (clause : HeadlineFromOpening tables (around (opened_by tables (codes "ab") 2 30 Auto plain false) 2 30) store ((Byte 0x17, ok) ∷ []) new store')
-    → new.session.editor.ended ≡ false
-    → (picture tables (after_events tables sought (clause (codes "ab") 2 30 Auto plain false refl).0) new.session.editor.top).row ≡ row → row ≡ 1
-the_cursor_is_in_the_query store store' new row clause on is =
-    let found = clause (codes "ab") 2 30 Auto plain false refl in
-    let one = one_key (codes "ab") 2 30 0x17 Find found.0 (λ bs. (decoding bs).keys) refl found.1.events_are
-    (found.1.keys found.0 [] (sym (append-nil found.0))) in
-    let has = ap (λ (xs : List Event). input_column tables (after_events tables sought xs)) one.1 ∙ query_column one.0 in
-    let height = ap (λ (xs : List Event). (after_events tables sought xs).height) one.1 ∙ query_height one.0 in
-    omega (arith, is, (found.1.in_line 13 on has).row, height)
+-- the cursor is in the second row, where the prompt is
+pub the_cursor_is_in_the_query : (store store' : StoreState) (schedule : Schedule) (new : World) (row : ℕ)
+    → Headline tables sought [] store schedule new store' [] → new.session.editor.ended ≡ false
+    → (picture tables sought new.session.editor.top).row ≡ row → row ≡ 1
+the_cursor_is_in_the_query store store' schedule new row clause on is =
+    omega (arith, is, (clause.in_line 13 on query_column).row, query_height)
 
 -- ---- a Save
 
