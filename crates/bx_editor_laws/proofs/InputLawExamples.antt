@@ -70,6 +70,7 @@ abbrev two_keys : List (Key × Option StoreFault)
 two_keys = (Insert 0x78, None) ∷ (Delete, None) ∷ []
 
 pub nothing_goes_into_it : ViewKeepsText → (after_typing tables viewed two_keys).content.text ≡ codes "ab"
+unfolding unicode_segmentation unicode_width digits
 nothing_goes_into_it law = ap (λ t. t.text) (law tables viewed two_keys viewed_is).content_is
 
 pub no_save_stores_it : ViewKeepsText → (saving : Saving) → saving_of viewed Save ≢ Some saving
