@@ -49,7 +49,6 @@ pub mod ToldLine
 pub mod LettersPut
 pub mod ToldUnit
 pub mod AskingLawExamples
-pub mod AnswersStay
 pub mod ParagraphAround
 pub mod IsolatedRegion
 pub mod CodePut
