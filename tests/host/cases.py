@@ -285,7 +285,7 @@ def printed_rows(check, tree):
         told = subprocess.run([tree.host, '--print', tree.file('pipe')], stdout=subprocess.PIPE, env=environment)
         check.holds('a pipe', told.returncode == 0 and told.stdout.endswith(b'>\ntext\n') and writer.wait(HANG) == 0, told)
     for text, status, output in ((b'\xef\xbb\xbf' + b'x' * 100000, 0, b'>\n' + b'x' * 100000), (b'x' * 16777217, 1, b'/dev/stdin has more than the limit of 16777216 bytes\n'),
-                                 (b'a\n\xff', 1, b'/dev/stdin is not UTF-8 (line 2): '), (b'\0\xff', 1, b'/dev/stdin is a binary file')):
+                                 (b'a\n\xff', 1, b'/dev/stdin is not UTF-8 (line 2)\n'), (b'', 0, b'>\n')):
         told = subprocess.run([tree.host, '--print', '-'], input=text, stdout=subprocess.PIPE, stderr=subprocess.STDOUT, env=environment)
         check.holds(f'a pipe with {len(text)} bytes', told.returncode == status and output in told.stdout, (told.returncode, told.stdout[:200]))
 

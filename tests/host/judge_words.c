@@ -177,7 +177,7 @@ static const char *answer(const char *line) {
 }
 
 /* Lines of the file of options, and what they ask for, or why they are passed over. */
-static const char *const lines[][2] = {
+static const char *const option_lines[][2] = {
     {"", "auto"},
     {" \t\n", "auto"},
     {"# --bad", "auto"},
@@ -262,7 +262,7 @@ static void check_help(void) {
 
 int main(void) {
     for (size_t i = 0; i < sizeof calls / sizeof *calls; i++) same(calls[i][0], answer(calls[i][0]), calls[i][1]);
-    for (size_t i = 0; i < sizeof lines / sizeof *lines; i++) same(lines[i][0], answer_to_line(lines[i][0]), lines[i][1]);
+    for (size_t i = 0; i < sizeof option_lines / sizeof *option_lines; i++) same(option_lines[i][0], answer_to_line(option_lines[i][0]), option_lines[i][1]);
     for (size_t i = 0; i < sizeof names / sizeof *names; i++) same(names[i][1], shown(names[i][0]), names[i][1]);
     for (size_t i = 0; i < sizeof versions / sizeof *versions; i++) check_version(versions[i][0], versions[i][1]);
     same("no file of classes", version_text("a kit", "/nowhere/x"), "bidi-edit " EDITOR_VERSION "\ntoolchain a kit\nUnicode unknown\n");
