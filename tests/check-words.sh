@@ -1,6 +1,6 @@
 #!/bin/sh
 # check-words.sh: checks that the trusted definitions listed in docs/PROMISES.md use only definitions above them in the list. The block
-# ```words has all that the headline's contracts name, in at most 90 files and 7,600 lines; the block ```more words has what the other
+# ```words has all that the headline's contracts name, in at most 90 files and 7,700 lines; the block ```more words has what the other
 # contracts of the world and of runs name. The last line has the totals. Exit status 1: that is not so, or a listed file is missing.
 set -eu
 
@@ -72,7 +72,7 @@ faults() {
     for source in bx_world/src/world bx_world/src/stepping bx_world/src/playing bx_world/src/laws bx_session/src/running; do
         not_listed "$source.rt" "$above" "$(imported_files "crates/$source.rt")"
     done
-    [ "$files" -le 90 ] && [ "$lines" -le 7600 ] || echo "the headline's list has more than 90 files or 7,600 lines"
+    [ "$files" -le 90 ] && [ "$lines" -le 7700 ] || echo "the headline's list has more than 90 files or 7,700 lines"
 }
 
 headline=$(listed_files words | tr '\n' ' ')
