@@ -116,7 +116,7 @@ a_digit_typed = after (start (codes "ab") 4 40) (GoTo ∷ Insert 0x661 ∷ [])
 pub an_arabic_digit_is_shown : PromptsAreShown
     → All IsShown (letter_glyphs (codes " line: ") ++ typed_glyphs tables a_digit_typed (row_text tables a_digit_typed) (Some (0xD9 ∷ 0xA1 ∷ [])))
 unfolding unicode_segmentation unicode_width digits
-an_arabic_digit_is_shown law = (law tables (codes "ab") 4 40 Auto (typed (GoTo ∷ Insert 0x661 ∷ []))).glyphs (λ e. cc e)
+an_arabic_digit_is_shown law = (law tables (codes "ab") 4 40 Auto (typed (GoTo ∷ Insert 0x661 ∷ [])) (tt, (refl, tt))).glyphs (λ e. cc e)
 
 -- ---- what is told
 
