@@ -1,5 +1,6 @@
 -- What is typed and erased in an input line leaves it UTF-8, short enough, and with its cursor at a place.
-use Rattle.std.proofs.Common.{◌≡◌, ℕ, ◌+◌, ◌<◌, ◌≤◌, Bool, true, false, nat_lt, List, [], ◌++◌, length, take, drop, chars, encode_utf8, IsUtf8, refl, arith, if◌then◌else◌}
+use Rattle.std.proofs.Common.{◌≡◌, ◌+◌, ◌<◌, ◌≤◌, ◌++◌}
+use Rattle.std.proofs.Common.{ℕ, Bool, true, false, nat_lt, List, [], length, take, drop, chars, encode_utf8, IsUtf8, refl, arith, if◌then◌else◌}
 use Rattle.std.specs.Char.{IsScalar}
 use Rattle.std.proofs.lemmas.Bool.Decides.{nat_tests}
 use Rattle.std.proofs.lemmas.Str.{IsUtf8-append, IsUtf8-drop, IsUtf8-encode, IsUtf8-nil, IsUtf8-take}

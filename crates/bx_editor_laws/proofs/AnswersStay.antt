@@ -1,5 +1,6 @@
 -- Whatever characters are typed, an answer stays short, and its prompt is shown.
-use Rattle.std.proofs.Common.{◌≡◌, ◌∙◌, ℕ, zero, suc, Bool, true, false, List, [], ◌∷◌, length, take, chars, encode_utf8, IsUtf8, Option, Some, None, IfSome, refl, sym, ap, subst, arith, if◌then◌else◌}
+use Rattle.std.proofs.Common.{◌≡◌, ◌∙◌, ◌∷◌}
+use Rattle.std.proofs.Common.{ℕ, zero, suc, Bool, true, false, List, [], length, take, chars, encode_utf8, IsUtf8, Option, Some, None, IfSome, refl, sym, ap, subst, arith, if◌then◌else◌}
 use Rattle.std.specs.Prelude.{◌≢◌, ◌==◌, ◌&&◌, fold}
 use Rattle.std.specs.Char.{IsScalar}
 use lib.Utf8.{scalar, scalars}

@@ -1,5 +1,6 @@
 -- All glyphs of a prompt, and of what is typed behind its words, are shown in their columns.
-use Rattle.std.proofs.Common.{◌≡◌, ℕ, ◌+◌, ◌-◌, Bool, true, false, nat_le, nat_lt, List, [], ◌∷◌, ◌++◌, Option, Some, None, All, IsUtf8, IfSome, refl, arith, if◌then◌else◌}
+use Rattle.std.proofs.Common.{◌≡◌, ◌+◌, ◌-◌, ◌∷◌, ◌++◌}
+use Rattle.std.proofs.Common.{ℕ, Bool, true, false, nat_le, nat_lt, List, [], Option, Some, None, All, IsUtf8, IfSome, refl, arith, if◌then◌else◌}
 use Rattle.std.proofs.lemmas.List.Elements.{All-append, All-nil, All-rest, All-weaker}
 use Rattle.bx_common.specs.Characters.{are_ascii_printable}
 use Rattle.bx_common.specs.declared.base.Base.TheVariants.{Auto}

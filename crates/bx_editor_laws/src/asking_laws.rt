@@ -45,7 +45,8 @@ pub fn letter_isolates()
 {}
 
 /// Whatever was typed over an opened text: an answer is short, and a terminal shows each glyph of a prompt, of its words and of what is
-/// typed behind them, in the glyph's columns.
+/// typed behind them, in the glyph's columns. What is typed has to be characters: an inserted one a scalar value, which is what the decoder
+/// gives, and held text that is put in UTF-8, as it is in every editor of the code.
 pub fn prompts_are_shown()
     ensures { PromptsAreShown }
 {}
