@@ -13,7 +13,7 @@ use Rattle.bx_rows.specs.RowPicture.{letter_glyphs}
 use Rattle.bx_text.specs.Changes.{IsRange}
 use Rattle.bx_view.specs.Numbers.{body_at}
 use Rattle.bx_store.specs.declared.store.StoreFault.{StoreFault}
-use Rattle.bx_editor_laws.specs.AskingLaws.{AnswerIsARun, CodePutsIn, IsAbove, IsolatesRaise, LetterIsolates, LetterPutsIn}
+use Rattle.bx_editor_laws.specs.AskingLaws.{AnswerIsARun, CodePutsIn, IsAbove, IsShown, PromptsAreShown, IsolatesRaise, LetterIsolates, LetterPutsIn}
 use Rattle.bx_editor_laws.specs.AskingLaws.{LetterWraps, QuestionsChangeThemselves, TellShows, TellsWhatStands, ToldNumbersLeadBack}
 use Rattle.bx_editor.specs.Editor.{Editor}
 use Rattle.bx_editor.specs.Status.{row_text, status_text, told_at_place, typed_glyphs}
@@ -106,6 +106,17 @@ b_stands_in_an_isolate law =
 -- a, an isolate from right to left with b in it, c
 pub b_is_above : IsolatesRaise → IsAbove 0 (level_at tables Auto (0x61 ∷ 0x2067 ∷ 0x62 ∷ 0x2069 ∷ 0x63 ∷ []) 2)
 b_is_above law = law tables Auto (0x61 ∷ []) (0x62 ∷ []) (0x2069 ∷ 0x63 ∷ []) 0x2067 refl (omega arith) 0 (omega arith) refl
+
+-- ---- a prompt
+
+-- a digit that no ASCII has
+abbrev a_digit_typed : Editor
+a_digit_typed = after (start (codes "ab") 4 40) (GoTo ∷ Insert 0x661 ∷ [])
+
+pub an_arabic_digit_is_shown : PromptsAreShown
+    → All IsShown (letter_glyphs (codes " line: ") ++ typed_glyphs tables a_digit_typed (row_text tables a_digit_typed) (Some (0xD9 ∷ 0xA1 ∷ [])))
+unfolding unicode_segmentation unicode_width digits
+an_arabic_digit_is_shown law = (law tables (codes "ab") 4 40 Auto (typed (GoTo ∷ Insert 0x661 ∷ [])) (tt, (refl, tt))).glyphs (λ e. cc e)
 
 -- ---- what is told
 

@@ -13,6 +13,7 @@ pub mod PasteEnded
 pub mod Unsought
 pub mod Nearest
 pub mod TakenBack
+pub mod PromptGlyphs
 pub mod PutBack
 pub mod MarkTwice
 pub mod GivenUp
@@ -49,6 +50,8 @@ pub mod ToldLine
 pub mod LettersPut
 pub mod ToldUnit
 pub mod AskingLawExamples
+pub mod AnswerLines
+pub mod AnswersStay
 pub mod ParagraphAround
 pub mod IsolatedRegion
 pub mod CodePut

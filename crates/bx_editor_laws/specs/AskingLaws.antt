@@ -3,7 +3,9 @@
 use Rattle.std.specs.Prelude.{◌≡◌, ◌≢◌, ◌⊎◌, ℕ, ◌+◌, ◌==◌, ◌||◌, ◌<◌, ◌≤◌, Bool, true, false, List, [], ◌∷◌, ◌++◌, length, map, take, drop, count_by}
 use Rattle.std.specs.Prelude.{chars, codes, decimal, encode_utf8, Option, Some, None, All, IsUtf8, if◌then◌else◌}
 use Rattle.std.specs.List.{concat}
+use Rattle.std.specs.Char.{IsScalar}
 use Rattle.bx_common.specs.Characters.{are_ascii_printable, largest_text}
+use Rattle.bx_common.specs.Glyphs.{is_one_glyph, run_width}
 use Rattle.bx_common.specs.declared.base.Base.{Base}
 use Rattle.bx_ucd.specs.Data.{Data}
 use Rattle.bx_ucd.specs.Class.{is_initiator}
@@ -18,9 +20,10 @@ use Rattle.bx_editor.specs.declared.questions.answers.Prompt.TheVariants.{Off, O
 use Rattle.bx_editor.specs.questions.Names.{coded, asks_code, closing, named}
 use Rattle.bx_editor.specs.questions.Told.{character_text, others_text}
 use Rattle.bx_keys.specs.declared.key.Key.{Key}
-use Rattle.bx_keys.specs.declared.key.Key.TheVariants.{Insert, NewLine, Erase, ErasePoint, Delete, UndoRun, GoTo, Name, Tell}
+use Rattle.bx_keys.specs.declared.key.Key.TheVariants.{Insert, NewLine, Erase, ErasePoint, Delete, Put, UndoRun, GoTo, Name, Tell}
 use Rattle.bx_store.specs.declared.store.StoreFault.{StoreFault}
 use Rattle.bx_text.specs.Changes.{IsRange}
+use Rattle.bx_rows.specs.RowPicture.{Glyph, letter_glyphs}
 use Rattle.bx_view.specs.Places.{IsTextPlace}
 use Rattle.bx_view.specs.Numbers.{body_at, count, paragraph_at, start_at}
 use Rattle.bx_document.specs.Swapped.{wrapped_end}
@@ -28,6 +31,7 @@ use Rattle.bx_document.specs.UnitLevels.{IsFirstLevel}
 use Rattle.bx_editor.specs.declared.message.Message.{Message}
 use Rattle.bx_editor.specs.declared.message.Message.TheVariants.{MoreThanOneLine, TextFull}
 use Rattle.bx_editor.specs.declared.cursor.Soft.TheVariants as softness
+use Rattle.bx_editor.specs.Answers.{IsAnswer}
 use Rattle.bx_editor.specs.Asking.{after_going, longest_code, with_answer, without_prompt, cursor_end, spans_lines}
 use Rattle.bx_editor.specs.Editor.{Editor, at_start, place_after}
 use Rattle.bx_editor.specs.Functions.{HasRows, after_keys}
@@ -260,6 +264,36 @@ abbrev pub LetterIsolates : Type 0
 LetterIsolates =
     (d : Data) (e : Editor) (letter opener closer : ℕ) → CanIsolate d e letter opener closer
     → Isolates d e opener closer (after_keys d None e (Name ∷ Insert letter ∷ []))
+
+-- ---- what a prompt shows
+
+-- a terminal shows the glyph's text as one glyph, in the glyph's columns
+pub record IsShown (g : Glyph) : Type 0 where
+  pub one : is_one_glyph g.text ≡ true
+  pub columns : run_width g.text ≡ g.columns
+
+-- the answer is short, and all glyphs of a prompt, its words and what is typed behind them, are shown
+pub record ShowsPrompt (d : Data) (e : Editor) : Type 0 where
+  pub answer : IsAnswer e.prompt e.answer
+  pub glyphs : e.prompt ≢ Off → All IsShown (letter_glyphs (prompt_text e.prompt) ++ typed_glyphs d e (row_text d e) (input_line_of e))
+
+-- A key types characters: what it inserts is a scalar value, which is what the decoder of the input gives, and held text that it puts in
+-- is UTF-8, as in every editor of the code.
+abbrev pub TypesCharacters : Editor → Key → Type 0
+TypesCharacters e (Insert c) = IsScalar c
+TypesCharacters e Put = IsUtf8 e.held
+TypesCharacters e _ = Unit {0}
+
+-- each of these keys does, one after the other
+abbrev pub AreCharacters : Data → Editor → List (Key × Option StoreFault) → Type 0
+AreCharacters d e [] = Unit {0}
+AreCharacters d e (key ∷ typed) = TypesCharacters e key.0 × AreCharacters d (after_key d key.1 e key.0) typed
+
+-- answer and prompt are so whatever was typed over an opened text
+abbrev pub PromptsAreShown : Type 0
+PromptsAreShown =
+    (d : Data) (text : List ℕ) (height width : ℕ) (base : Base) (typed : List (Key × Option StoreFault))
+    → let start = at_start text height width base in AreCharacters d start typed → ShowsPrompt d (after_typing d start typed)
 
 -- ---- what is told
 

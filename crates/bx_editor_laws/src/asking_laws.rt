@@ -1,6 +1,6 @@
 //! Laws of questions and their answers, and of what is told of a unit. The functions are empty: their contracts are the laws.
 
-ghost use Rattle.bx_editor_laws.specs.AskingLaws.{AnswerIsARun, CodePutsIn, IsolatesRaise, LetterIsolates, LetterPutsIn, LetterWraps, QuestionsChangeThemselves};
+ghost use Rattle.bx_editor_laws.specs.AskingLaws.{AnswerIsARun, CodePutsIn, IsolatesRaise, LetterIsolates, LetterPutsIn, LetterWraps, PromptsAreShown, QuestionsChangeThemselves};
 ghost use Rattle.bx_editor_laws.specs.AskingLaws.{TellShows, TellsWhatStands, ToldNumbersLeadBack};
 
 /// A question changes nothing but itself: whatever is typed while it is on leaves text, place, held text and mark as they were.
@@ -42,6 +42,13 @@ pub fn isolates_raise()
 /// other paragraph changes.
 pub fn letter_isolates()
     ensures { LetterIsolates }
+{}
+
+/// Whatever was typed over an opened text: an answer is short, and a terminal shows each glyph of a prompt, of its words and of what is
+/// typed behind them, in the glyph's columns. What is typed has to be characters: an inserted one a scalar value, which is what the decoder
+/// gives, and held text that is put in UTF-8, as it is in every editor of the code.
+pub fn prompts_are_shown()
+    ensures { PromptsAreShown }
 {}
 
 /// Of the unit at the place are told its first character's code and class, and its level; all that is told is printable.

@@ -17,7 +17,8 @@ mod work_laws;
 
 pub use asking_laws::{
     answer_is_a_run, code_puts_in, isolates_raise, letter_isolates, letter_puts_in, letter_wraps,
-    questions_change_themselves, tell_shows, tells_what_stands, told_numbers_lead_back,
+    prompts_are_shown, questions_change_themselves, tell_shows, tells_what_stands,
+    told_numbers_lead_back,
 };
 pub use input_laws::{keys_are_letters, line_keys_keep_prompt, only_answers_overwrite};
 pub use laws::{
