@@ -431,7 +431,8 @@ void session_note_saved(struct session *session) {
 enum cause session_resume(struct session *session, unsigned rows, unsigned cols) {
     char words[64];
     struct stat found;
-    snprintf(words, sizeof words, "\x13\x1b[8;%u;%ut", rows, cols);
+    /* in a text without a name a Save would ask for one; Help ends a search too, and does nothing else to the text */
+    snprintf(words, sizeof words, "%s\x1b[8;%u;%ut", session->about.begin.is_nameless ? "\x1b[80~" : "\x13", rows, cols);
     if (session->journal < 0 || fstat(session->journal, &found) != 0) return CAUSE_FOLDER_GONE;
     int error = write_bytes(session->journal, words, strlen(words));
     /* takes back what was written; the first fault is the one to report */

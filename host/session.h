@@ -136,8 +136,8 @@ void session_note_saved(struct session *session);
 enum lock_result { LOCK_TAKEN, LOCK_HELD, LOCK_GONE, LOCK_FAILED };
 enum lock_result session_lock(struct session *session);
 
-/* Appends a Save and the window's size to the journal of a recovered session. The Save ends a search or question, so that letters
- * go into the text, and the size makes the replay end in this window. */
+/* Appends a Save, or for a text without a name a Help, and the window's size to the journal of a recovered session. The key ends a search or
+ * question, so that letters go into the text, and the size makes the replay end in this window. */
 enum cause session_resume(struct session *session, unsigned rows, unsigned cols);
 
 /* Records that a locked session goes on: with a new file beside FILE (`beside`, an absolute path) or, if that is NULL, with FILE.
