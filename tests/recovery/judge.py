@@ -1,10 +1,13 @@
 """Judges a recovered text, for check-recovery.sh: judge.py SESSION TEXT JOURNAL, with a session of sessions.py.
 
-The journal must be a beginning of the keys that includes keys1, and the text must be the one after its last key. Without a
-journal all was saved, and the text is one after some key past keys1. The exit status is 0, or a message says what is wrong.
+The journal must be a beginning of the keys that includes keys1, and the text must be the one after its last key. It may also have what
+the user did not type: the host's notices, and the key Fill behind a size. Without a journal all was saved, and the text is one after
+some key past keys1. The exit status is 0, or a message says what is wrong.
 """
 
-import os, sys
+import os, re, sys
+
+UNTYPED = re.compile(rb"\x1b\[>[0-9]~|(?<=t)\x1b\[102~")
 
 
 def read(*path):
@@ -19,7 +22,7 @@ ends = {int(n): bytes.fromhex(t) for n, t in (line.split(" ") for line in read(s
 found = read(text)
 if not os.path.exists(journal):
     sys.exit(0 if found in [t for n, t in ends.items() if n >= len(first)] else "what was saved is no text of these keys")
-kept = read(journal)
+kept = UNTYPED.sub(b'', read(journal))
 if not (first + second).startswith(kept):
     sys.exit("the journal is no beginning of the keys: %r, %r" % (kept, first + second))
 if len(kept) < len(first):
