@@ -247,7 +247,7 @@ framed() { # NAME FRAMES STATUS TOLD JOURNAL WORD..
 framed keys_of_terminals 'b\000\010a\033[7~z\033[' 1 oeunsaved 'a^[[Hz^[['
 framed second_quit 'b\000\002x\021b\000\001\021' 0 oedropped 'x^Q^Q'
 framed lone_escape 'b\000\001\033i\000\000b\000\001a' 1 oeunsaved '^[[93~a'
-framed a_size_within_a_letter 'b\000\001\327z\000\004\000\003\000\024b\000\001\220' 1 oeunsaved 'M-WM-^P^[[8;3;20t'
+framed a_size_within_a_letter 'b\000\001\327z\000\004\000\003\000\024b\000\001\220' 1 oeunsaved 'M-WM-^P^[[8;3;20t^[[102~'
 framed a_notice 'b\000\001an\000\001\003s\000\000' 1 oeunsaved 'a^[[>3~'
 framed erase_is_delete 'b\000\003\010xy' 1 oeunsaved '^[[88~xy' --erase 7f
 framed erase_is_backspace 'b\000\003\010xy' 1 oeunsaved '^[[94~xy' --erase 08

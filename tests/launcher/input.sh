@@ -10,9 +10,9 @@ type_bytes() { # FILE
     terminal paste-buffer -d -r -b bytes -t person
 }
 
-# Prints the journal of the session that runs.
+# Prints the journal of the session that runs, without the notice of no number with which it begins.
 journal() {
-    cat "$folder"/state/bidi_edit/*/journal 2>/dev/null
+    cat "$folder"/state/bidi_edit/*/journal 2>/dev/null | LC_ALL=C sed '1s/^\x1b\[>0~//'
 }
 
 # Prints the same once it has bytes and gets no more for half a second, or after ten seconds.
