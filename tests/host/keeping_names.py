@@ -14,7 +14,10 @@ def told_changes(check, place):
     place.put('a.txt', b'theirs\n')
     for _ in range(3):
         started.type(SAVE).sees(b'failed: 7')
-    check.same('the journal', place.part('journal').replace(b'\x1b[>0~', b'').replace(b'\x1b[>7~', b''), b'abc' + 3 * b'\x13\x1b[106~')
+    wanted, end = b'abc' + 3 * b'\x13\x1b[106~', time.monotonic() + HANG
+    while (kept := place.part('journal').replace(b'\x1b[>0~', b'').replace(b'\x1b[>7~', b'')) != wanted and time.monotonic() < end:
+        time.sleep(0.05)
+    check.same('the journal', kept, wanted)
     check.same('FILE', place.text('a.txt'), b'theirs\n')
     started.type(OVER).sees(b'saved').type(QUIT).ends(0)
     check.same('FILE after that', place.text('a.txt'), b'abctext\n')

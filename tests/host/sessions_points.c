@@ -12,6 +12,7 @@
 #include <sys/wait.h>
 #include <unistd.h>
 
+#include "../../host/save.h"
 #include "../../host/session.h"
 #include "../../host/util.h"
 
