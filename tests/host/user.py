@@ -23,7 +23,7 @@ def has_session(place, name):
     for folder in place.sessions():
         with open(f'{folder}/about', 'rb') as about, open(f'{folder}/journal', 'rb') as journal:
             facts = about.read()
-            if place.path(name).encode() in facts and b'\ntext ' in facts and journal.read().startswith(b'abc'):
+            if place.path(name).encode() in facts and b'\ntext ' in facts and b'abc' in journal.read():
                 return True
     return False
 
