@@ -9,7 +9,7 @@ make_sources() {
     # no release that CHANGELOG.md names is later
     commit_time=$(git -C "$top" log -1 --format='%ct +0200')
     mkdir "$source"
-    (cd "$top" && git ls-files -z | xargs -0 tar -cf - 2>/dev/null) | tar -xf - -C "$source"
+    (cd "$top" && git ls-files -z | tar --null -T - -cf - 2>/dev/null) | tar -xf - -C "$source"
     # after a change in host/, dist/ is made anew here, as it has to be before the change lands
     [ "$(host_digest)" = "$(noted host)" ] || sh "$source/tools/make-dist.sh" >"$folder/said" 2>&1 || cat "$folder/said"
     (
