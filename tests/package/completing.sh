@@ -55,7 +55,7 @@ bash_completes() { # WORD..
 
 check_bash() { # NAME
     has_tool "$1" bash || return 0
-    same "$1, options" "$(bash_completes --no-)" '--no-clipboard --no-joining --no-mouse'
+    same "$1, options" "$(bash_completes --no-)" '--no-clipboard --no-indent --no-joining --no-mouse --no-options'
     same "$1, a value" "$(bash_completes --direction l)" ltr
     same "$1, a value after =" "$(bash_completes --direction = r)" rtl
     same "$1, a value after = alone" "$(bash_completes --direction =)" 'auto ltr rtl'
@@ -69,7 +69,7 @@ check_bash() { # NAME
 
 check_fish() { # NAME
     has_tool "$1" fish || return 0
-    for case in '--no-|--no-clipboard --no-joining --no-mouse' '--direction |auto ltr rtl' '--print file --m|--marks' '--print file --fo|'; do
+    for case in '--no-|--no-clipboard --no-indent --no-joining --no-mouse --no-options' '--direction |auto ltr rtl' '--print file --m|--marks' '--print file --fo|'; do
         found=$(fish --no-config -c "source '$fish_file'; complete -C 'bidi-edit ${case%|*}'" 2>&1 | cut -f 1 | sort | paste -s -d ' ')
         same "$1, ${case%|*}" "$found" "${case#*|}"
     done
