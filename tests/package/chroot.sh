@@ -27,10 +27,10 @@ check_chroot() { # NAME
     if [ "$(id -u)" != 0 ]; then skip "$1" 'only root can make one'; return; fi
     make_root || { skip "$1" "there is no fresh Debian: $(tail -n 1 "$folder/said")"; return; }
     files_of_root >"$folder/before"
-    cp "$deb" "$root/tmp/bidi-edit.deb"
-    chroot "$root" dpkg --install /tmp/bidi-edit.deb >"$folder/said" 2>&1
+    cp "$deb" "$root/bidi-edit.deb"
+    chroot "$root" dpkg --install /bidi-edit.deb >"$folder/said" 2>&1
     report "$1, installed" $? "$(cat "$folder/said")"
-    rm "$root/tmp/bidi-edit.deb"
+    rm "$root/bidi-edit.deb"
     same "$1, as editor" "$(chroot "$root" readlink -f /usr/bin/editor)" /usr/bin/bidi-edit
     room=$root/home/person
     use "$1, with HOME" "chroot --userspec=1234:1234 '$root' env -i HOME=/home/person TERM=\$TERM LANG=C.UTF-8 bidi-edit /home/person/note"
