@@ -20,7 +20,7 @@ impl<D: BidiData + Drop> Document<D> {
         ensures text { IfOk result (λ b. b.text.edited ≡ self.now.document.content) }
         ensures is { IfOk result (IsBackup (D.data self.now.tables)) }
     {
-        // The proof compares the copy, so it has a name.
+        // The proof refers to the copy by this name.
         let backup = self.indexed.backup(self.alloc)?;
         Ok(backup)
     }

@@ -74,7 +74,7 @@ impl<D: BidiData + Drop> Document<D> {
         ensures order { IfOk result (λ o. start + length new.now ≤ o) }
     {
         let text_ref = self.indexed.text_ref();
-        // The proof compares the place, so it has a name.
+        // The proof refers to the place by this name.
         let place = place_after(self.alloc, &text_ref, &mut self.view, start..stop, new)?;
         Ok(place)
     }
@@ -88,7 +88,7 @@ impl<D: BidiData + Drop> Document<D> {
         ensures order { IfOk result (λ o. start ≤ o) }
     {
         let text_ref = self.indexed.text_ref();
-        // The proof compares the place, so it has a name.
+        // The proof refers to the place by this name.
         let place = place_after(self.alloc, &text_ref, &mut self.view, start..stop, "")?;
         Ok(place)
     }
@@ -157,7 +157,7 @@ impl<D: BidiData + Drop> Document<D> {
         // The bytes after the removed ones, up to the place between, stay in front of the new text.
         let behind = stop + (between - start);
         let whole = wrapped(self.alloc, text_ref.text, stop, behind, "", new)?;
-        // The proof compares the place, so it has a name.
+        // The proof refers to the place by this name.
         let place = self.place_after(start, behind, whole.as_str())?;
         Ok(place)
     }
@@ -278,7 +278,7 @@ impl<D: BidiData + Drop> Document<D> {
             let place = self.view.place_at(&text_ref, offset)?;
             return Ok(place - stop + start + new.len());
         }
-        // The proof compares the place, so it has a name.
+        // The proof refers to the place by this name.
         let place = place_at_inside(
             self.alloc,
             &text_ref,
@@ -309,7 +309,7 @@ impl<D: BidiData + Drop> Document<D> {
         let text_ref = self.indexed.text_ref();
         let whole = wrapped(self.alloc, text_ref.text, start, stop, front, back)?;
         let offset = wrapped_end(end, start, stop, front);
-        // The proof compares the place, so it has a name.
+        // The proof refers to the place by this name.
         let place = place_inside(
             self.alloc,
             &text_ref,

@@ -131,7 +131,7 @@ impl<D: BidiData + Drop> Document<D> {
         let (text, index) = text_of(self.alloc, line, tables)?;
         let text_ref = TextRef::of(&text, &index, tables);
         let mut view = view_of(self.alloc);
-        // The proof compares the place, so it has a name.
+        // The proof refers to the place by this name.
         let place = view.place_from(&text_ref, offset)?;
         Ok(place)
     }
@@ -146,7 +146,7 @@ impl<D: BidiData + Drop> Document<D> {
         let (text, index) = text_of(self.alloc, line, tables)?;
         let text_ref = TextRef::of(&text, &index, tables);
         let mut view = view_of(self.alloc);
-        // The proof compares the place, so it has a name.
+        // The proof refers to the place by this name.
         let place = bx_view::moved(&mut view, &text_ref, m, place)?;
         Ok(place)
     }

@@ -81,7 +81,7 @@ impl<D: BidiData + Drop> Document<D> {
         ensures units { IfOk result (λ n. n ≡ unit_number (D.data self.old.tables) self.old.document.content.text place - 1) }
     {
         let text_ref = self.indexed.text_ref();
-        // The proof compares the number, so it has a name.
+        // The proof refers to the number by this name.
         let units = self.view.units_in_line(&text_ref, place)?;
         Ok(units)
     }

@@ -17,30 +17,30 @@ impl<D: BidiData + Drop> Document<D> {
         ensures shown { IfOk result (λ b. b ≡ is_shown (rows (D.data self.old.tables) self.old.document) top place count) }
     {
         let text_ref = self.indexed.text_ref();
-        // The proof compares the answer, so it has a name.
+        // The proof refers to the answer by this name.
         let shown = self
             .view
             .is_shown(&text_ref, top, place, usize::from(count))?;
         Ok(shown)
     }
 
-    /// The offset of the top row by which the row of a place is visible: of the offset `top`, if it is visible already; else of the row
-    /// by which it stands in the middle of `count` visible rows, or as near to it as the text's ends allow.
+    /// The offset of the top row that shows the row of a place: `top`'s own if that row is one of its `count` rows; else the one that
+    /// puts that row in the middle of the window, or as near to it as the text's ends allow.
     pub fn centred(&mut self, top: usize, place: usize, count: u16) -> Result<usize, OutOfMemory>
         requires some { 0 < count }
         ensures same { self.new ≡ self.old }
         ensures top { IfOk result (λ o. o ≡ centred (rows (D.data self.old.tables) self.old.document) top place count) }
     {
         let text_ref = self.indexed.text_ref();
-        // The proof compares the top row, so it has a name.
+        // The proof refers to the top row by this name.
         let top = self
             .view
             .centred(&text_ref, top, place, usize::from(count))?;
         Ok(top)
     }
 
-    /// The offset of the top row `n` rows above or below that of the offset `top`. A move down goes on only as far as `count` rows are
-    /// visible.
+    /// The offset of the top row after a window of `count` rows at the offset `top` moves by `n` rows. It moves down only as long as the
+    /// text fills the window.
     pub fn top_away(
         &mut self,
         top: usize,
@@ -53,22 +53,22 @@ impl<D: BidiData + Drop> Document<D> {
         ensures top { IfOk result (λ o. o ≡ top_away (rows (D.data self.old.tables) self.old.document) way n top count) }
     {
         let text_ref = self.indexed.text_ref();
-        // The proof compares the top row, so it has a name.
+        // The proof refers to the top row by this name.
         let top = self
             .view
             .top_away(&text_ref, way, n, top, usize::from(count))?;
         Ok(top)
     }
 
-    /// The offset of the top row by which `count` rows are visible, or all of a text that has fewer: that of the offset `top`, or the
-    /// last one from which there are so many.
+    /// The offset of the top row of a window of `count` rows that the text fills: that of the row at the offset `top`, or of the last
+    /// row that has `count` rows from it to the text's end, whichever is above. A shorter text begins at its first row.
     pub fn filled(&mut self, top: usize, count: u16) -> Result<usize, OutOfMemory>
         requires some { 0 < count }
         ensures same { self.new ≡ self.old }
         ensures top { IfOk result (λ o. o ≡ filled (rows (D.data self.old.tables) self.old.document) top count) }
     {
         let text_ref = self.indexed.text_ref();
-        // The proof compares the top row, so it has a name.
+        // The proof refers to the top row by this name.
         let top = self.view.filled(&text_ref, top, usize::from(count))?;
         Ok(top)
     }
@@ -91,7 +91,7 @@ impl<D: BidiData + Drop> Document<D> {
             → IfOk result (λ o. IsCharBoundary self.old.document.content.text o) }
     {
         let text_ref = self.indexed.text_ref();
-        // The proof compares the place, so it has a name.
+        // The proof refers to the place by this name.
         let place = bx_view::to_shown(
             &mut self.view,
             &text_ref,

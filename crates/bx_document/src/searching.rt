@@ -143,7 +143,7 @@ impl<D: BidiData + Drop> Document<D> {
         ensures boundary { IfOk result (λ o. IsCharBoundary self.old.document.content.text o) }
     {
         let text_ref = self.indexed.text_ref();
-        // The proof compares the place, so it has a name.
+        // The proof refers to the place by this name.
         let place = self.view.place_at(&text_ref, offset)?;
         Ok(place)
     }

@@ -79,7 +79,7 @@ fn glyph_row(alloc: Global, glyphs: &[Drawn<'_>], width: u16) -> Result<Grid, Ou
     ensures wide { IfOk result (λ row. row.width ≡ width) }
 {
     let count = fit_count(glyphs, width);
-    // The proof compares the row, so it has a name.
+    // The proof refers to the row by this name.
     let row = draw_glyphs(alloc, &glyphs[..count], width)?;
     Ok(row)
 }
@@ -337,7 +337,7 @@ impl<D: BidiData + Drop> Document<D> {
         let mut picture = RowPicture::of_letters(self.alloc, text)?;
         let width = self.width();
         push_some_end(self.alloc, &mut picture.glyphs, end, width)?;
-        // The proof compares the row, so it has a name.
+        // The proof refers to the row by this name.
         let row = glyph_row(self.alloc, &picture.glyphs, width)?;
         Ok(row)
     }

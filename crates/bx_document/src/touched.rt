@@ -164,7 +164,7 @@ pub(crate) fn place_after<D: BidiData>(
         return Ok(place);
     }
     let offset = range.start + new.len();
-    // The proof compares the place, so it has a name.
+    // The proof refers to the place by this name.
     let place = place_inside(alloc, text_ref, view, range, new, offset)?;
     Ok(place)
 }

@@ -2,10 +2,10 @@
 use Rattle.std.proofs.Common.{◌≡◌, Bool, true, false, refl}
 use Rattle.bx_keys.specs.declared.key.Key.{Key}
 use Rattle.bx_keys.specs.declared.key.Key.TheVariants.{Insert, Erase, Delete, Back, Forward, Up, Down, Right, Left, RowHome, RowEnd, PageUp, PageDown, Save}
-use Rattle.bx_keys.specs.declared.key.Key.TheVariants.{Quit, Undo, Redo, Repaint, Direction, Size, Mark, Copy, Cut, Put}
+use Rattle.bx_keys.specs.declared.key.Key.TheVariants.{Quit, UndoEdit, RedoEdit, Repaint, Direction, Size, Mark, Copy, Cut, Put}
 use Rattle.bx_keys.specs.declared.key.Key.TheVariants.{Find, FindBack, WordLeft, WordRight, TextStart, TextEnd, Help, Notice}
 use Rattle.bx_keys.specs.declared.key.Key.TheVariants.{EraseWord, DeleteWord, ErasePoint, NewLine, FindNext, Cancel, LineUp, LineDown, PageBack, PageOn}
-use Rattle.bx_keys.specs.declared.key.Key.TheVariants.{Select, UndoRun, RedoRun, GoTo, Replace, Name, Tell, PasteStart, PasteEnd, Point}
+use Rattle.bx_keys.specs.declared.key.Key.TheVariants.{Select, Undo, Redo, GoTo, Replace, Name, Tell, PasteStart, PasteEnd, Point}
 use Rattle.bx_keys.specs.declared.key.Key.TheVariants.{AskOverwrite, Drag, Fill, FindPrevious, SaveAs, ScrollBack, ScrollOn, SelectAll}
 use Rattle.bx_editor.specs.declared.answer.Answer.{Answer}
 use Rattle.bx_editor.specs.declared.answer.Answer.TheVariants.{Letter, Erases, Moves, PutsIn, Passes, GoesBack, Next, Previous, Replaces, Scrolls, Stays, Ends}
@@ -37,8 +37,8 @@ edits-or-moves PageUp takes = absurd (cc takes)
 edits-or-moves PageDown takes = absurd (cc takes)
 edits-or-moves Save takes = absurd (cc takes)
 edits-or-moves Quit takes = absurd (cc takes)
-edits-or-moves Undo takes = absurd (cc takes)
-edits-or-moves Redo takes = absurd (cc takes)
+edits-or-moves UndoEdit takes = absurd (cc takes)
+edits-or-moves RedoEdit takes = absurd (cc takes)
 edits-or-moves Repaint takes = absurd (cc takes)
 edits-or-moves Direction takes = absurd (cc takes)
 edits-or-moves Mark takes = absurd (cc takes)
@@ -63,8 +63,8 @@ edits-or-moves LineDown takes = absurd (cc takes)
 edits-or-moves PageBack takes = absurd (cc takes)
 edits-or-moves PageOn takes = absurd (cc takes)
 edits-or-moves Select takes = absurd (cc takes)
-edits-or-moves UndoRun takes = absurd (cc takes)
-edits-or-moves RedoRun takes = absurd (cc takes)
+edits-or-moves Undo takes = absurd (cc takes)
+edits-or-moves Redo takes = absurd (cc takes)
 edits-or-moves GoTo takes = absurd (cc takes)
 edits-or-moves Replace takes = refl
 edits-or-moves Name takes = absurd (cc takes)

@@ -2,10 +2,10 @@
 use Rattle.std.proofs.Common.{◌≡◌, ℕ, List, false, Option, Some, None, refl, sym, ap, ap₂, ◌∙◌, if◌then◌else◌}
 use Rattle.bx_keys.specs.declared.key.Key.{Key}
 use Rattle.bx_keys.specs.declared.key.Key.TheVariants.{Insert, Erase, Delete, Back, Forward, Up, Down, Right, Left, RowHome, RowEnd, PageUp, PageDown, Save}
-use Rattle.bx_keys.specs.declared.key.Key.TheVariants.{Quit, Undo, Redo, Repaint, Direction, Size, Mark, Copy, Cut, Put}
+use Rattle.bx_keys.specs.declared.key.Key.TheVariants.{Quit, UndoEdit, RedoEdit, Repaint, Direction, Size, Mark, Copy, Cut, Put}
 use Rattle.bx_keys.specs.declared.key.Key.TheVariants.{Find, FindBack, WordLeft, WordRight, TextStart, TextEnd, Help, Notice}
 use Rattle.bx_keys.specs.declared.key.Key.TheVariants.{EraseWord, DeleteWord, ErasePoint, NewLine, FindNext, Cancel, LineUp, LineDown, PageBack, PageOn}
-use Rattle.bx_keys.specs.declared.key.Key.TheVariants.{Select, UndoRun, RedoRun, GoTo, Replace, Name, Tell, PasteStart, PasteEnd, Point}
+use Rattle.bx_keys.specs.declared.key.Key.TheVariants.{Select, Undo, Redo, GoTo, Replace, Name, Tell, PasteStart, PasteEnd, Point}
 use Rattle.bx_keys.specs.declared.key.Key.TheVariants.{AskOverwrite, Drag, Fill, FindPrevious, SaveAs, ScrollBack, ScrollOn, SelectAll}
 use Rattle.bx_keys.specs.declared.notice.Notice as told
 use Rattle.bx_store.specs.declared.store.StoreFault.{StoreFault}
@@ -47,8 +47,8 @@ each-key d fault e P sized noted filled pasted other PageUp = other PageUp refl
 each-key d fault e P sized noted filled pasted other PageDown = other PageDown refl
 each-key d fault e P sized noted filled pasted other Save = other Save refl
 each-key d fault e P sized noted filled pasted other Quit = other Quit refl
-each-key d fault e P sized noted filled pasted other Undo = other Undo refl
-each-key d fault e P sized noted filled pasted other Redo = other Redo refl
+each-key d fault e P sized noted filled pasted other UndoEdit = other UndoEdit refl
+each-key d fault e P sized noted filled pasted other RedoEdit = other RedoEdit refl
 each-key d fault e P sized noted filled pasted other Repaint = other Repaint refl
 each-key d fault e P sized noted filled pasted other Direction = other Direction refl
 each-key d fault e P sized noted filled pasted other Mark = other Mark refl
@@ -73,8 +73,8 @@ each-key d fault e P sized noted filled pasted other LineDown = other LineDown r
 each-key d fault e P sized noted filled pasted other PageBack = other PageBack refl
 each-key d fault e P sized noted filled pasted other PageOn = other PageOn refl
 each-key d fault e P sized noted filled pasted other Select = other Select refl
-each-key d fault e P sized noted filled pasted other UndoRun = other UndoRun refl
-each-key d fault e P sized noted filled pasted other RedoRun = other RedoRun refl
+each-key d fault e P sized noted filled pasted other Undo = other Undo refl
+each-key d fault e P sized noted filled pasted other Redo = other Redo refl
 each-key d fault e P sized noted filled pasted other GoTo = other GoTo refl
 each-key d fault e P sized noted filled pasted other Replace = other Replace refl
 each-key d fault e P sized noted filled pasted other Name = other Name refl

@@ -6,7 +6,7 @@ use Rattle.unicode_segmentation.proofs.Computing.{unicode_segmentation}
 use Rattle.unicode_width.proofs.Computing.{unicode_width}
 use Rattle.bx_keys.specs.declared.key.Key.{Key}
 use Rattle.bx_keys.specs.declared.key.Key.TheVariants.{Back, Copy, Cut, Down, Erase, Find, Forward, GoTo, LineDown, Mark, Name, NewLine, Point, Quit}
-use Rattle.bx_keys.specs.declared.key.Key.TheVariants.{PasteStart, PasteEnd, Redo, Repaint, Right, RowEnd, Save, Select, Size, TextEnd, Undo, UndoRun}
+use Rattle.bx_keys.specs.declared.key.Key.TheVariants.{PasteStart, PasteEnd, RedoEdit, Repaint, Right, RowEnd, Save, Select, Size, TextEnd, UndoEdit, Undo}
 use Rattle.bx_editor.specs.declared.questions.answers.Prompt.{Prompt}
 use Rattle.bx_editor.specs.declared.questions.answers.Prompt.TheVariants as prompts
 use Rattle.bx_editor.specs.declared.undo_groups.typing.Typing.{Typing}
@@ -78,16 +78,16 @@ and_it_is_over : paste_of whole ≡ (None, None, true)
 unfolding unicode_segmentation unicode_width digits
 and_it_is_over = refl
 
-undone_at_once : text_at (after whole (Undo ∷ [])) ≡ (codes "ab", 1)
+undone_at_once : text_at (after whole (UndoEdit ∷ [])) ≡ (codes "ab", 1)
 unfolding unicode_segmentation unicode_width digits
 undone_at_once = refl
 
-made_again : text_at (after whole (Undo ∷ Redo ∷ [])) ≡ (codes "axy\nb", 4)
+made_again : text_at (after whole (UndoEdit ∷ RedoEdit ∷ [])) ≡ (codes "axy\nb", 4)
 unfolding unicode_segmentation unicode_width digits
 made_again = refl
 
 abbrev whole_undone : Editor
-whole_undone = after whole (UndoRun ∷ [])
+whole_undone = after whole (Undo ∷ [])
 
 and_undone_as_a_run : text_at whole_undone ≡ (codes "ab", 1)
 unfolding unicode_segmentation unicode_width digits
@@ -148,7 +148,7 @@ two_edits_of_one_run : undo_groups_of in_its_place ≡ (0 ∷ [], 2, typings.Off
 unfolding unicode_segmentation unicode_width digits
 two_edits_of_one_run = refl
 
-both_undone_at_once : text_at (after in_its_place (UndoRun ∷ [])) ≡ (codes "abcd", 2)
+both_undone_at_once : text_at (after in_its_place (Undo ∷ [])) ≡ (codes "abcd", 2)
 unfolding unicode_segmentation unicode_width digits
 both_undone_at_once = refl
 
@@ -251,7 +251,7 @@ a_quit_ends_it : (cut_off_by Quit).message ≡ Some Unsaved
 unfolding unicode_segmentation unicode_width digits
 a_quit_ends_it = refl
 
-an_undo_takes_it_back : text_at (cut_off_by Undo) ≡ (codes "ab", 0)
+an_undo_takes_it_back : text_at (cut_off_by UndoEdit) ≡ (codes "ab", 0)
 unfolding unicode_segmentation unicode_width digits
 an_undo_takes_it_back = refl
 
@@ -285,18 +285,18 @@ what_comes_after_is_typed : undo_groups_of in_parts ≡ (0 ∷ 1 ∷ 2 ∷ 3 ∷
 unfolding unicode_segmentation unicode_width digits
 what_comes_after_is_typed = refl
 
-in_runs_of_its_own : text_at (after in_parts (UndoRun ∷ UndoRun ∷ UndoRun ∷ [])) ≡ (codes "a", 1)
+in_runs_of_its_own : text_at (after in_parts (Undo ∷ Undo ∷ Undo ∷ [])) ≡ (codes "a", 1)
 unfolding unicode_segmentation unicode_width digits
 in_runs_of_its_own = refl
 
 abbrev erased : Editor
-erased = after two_pastes (UndoRun ∷ PasteStart ∷ letters (codes "x") ++ Erase ∷ Erase ∷ letters (codes "y"))
+erased = after two_pastes (Undo ∷ PasteStart ∷ letters (codes "x") ++ Erase ∷ Erase ∷ letters (codes "y"))
 
 erasures_after_it_are_a_run : undo_groups_of erased ≡ (0 ∷ 1 ∷ 2 ∷ 4 ∷ [], 5, typings.Word)
 unfolding unicode_segmentation unicode_width digits
 erasures_after_it_are_a_run = refl
 
-undone_up_to_it : text_at (after erased (UndoRun ∷ UndoRun ∷ [])) ≡ (codes "abx", 3)
+undone_up_to_it : text_at (after erased (Undo ∷ Undo ∷ [])) ≡ (codes "abx", 3)
 unfolding unicode_segmentation unicode_width digits
 undone_up_to_it = refl
 
@@ -341,7 +341,7 @@ a_mark_joins_the_letter_before : text_at with_a_mark ≡ (0x65 ∷ 0xCC ∷ 0x81
 unfolding unicode_segmentation unicode_width digits
 a_mark_joins_the_letter_before = refl
 
-and_is_taken_back : text_at (after with_a_mark (UndoRun ∷ [])) ≡ (codes "e", 1)
+and_is_taken_back : text_at (after with_a_mark (Undo ∷ [])) ≡ (codes "e", 1)
 unfolding unicode_segmentation unicode_width digits
 and_is_taken_back = refl
 

@@ -1,4 +1,4 @@
--- The line of a place begins between characters, at the place or before it. Its ends, and those of the text, are places.
+-- The line that has a place begins at a character boundary at or before that place. The ends of a line and of the text are places.
 use Rattle.std.proofs.Common.{◌≡◌, ◌≤◌, ℕ, ◌+◌, List, IsUtf8, length, map, refl, sym, ap, ◌∙◌, arith, subst, true, ⊎_elim}
 use Rattle.std.specs.Prelude.{Contains}
 use Rattle.std.specs.List.{concat}

@@ -1,4 +1,4 @@
--- An answer while it is typed: it has at most so many characters as its question takes.
+-- The answer that is being typed has at most the number of characters that its question takes.
 use Rattle.std.specs.Prelude.{ℕ, ◌≤◌, List, length, chars}
 use Rattle.bx_editor.specs.declared.questions.answers.Prompt.{Prompt}
 use Rattle.bx_editor.specs.declared.questions.answers.Prompt.TheVariants.{Line, Name, Code}

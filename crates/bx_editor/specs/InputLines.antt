@@ -85,7 +85,7 @@ takes_line prompts.Code = true
 takes_line prompts.File = true
 takes_line _ = false
 
--- by what is asked: the answer, if it is an input line; without a question that of the search
+-- the text of the prompt's input line: the answer of a question that takes a line, or without a question the line of the search
 abbrev pub prompt_line : Prompt → SearchState → List ℕ → List ℕ → List ℕ → Option (List ℕ)
 prompt_line prompts.Off search_state query replacement answer = search_line search_state query replacement
 prompt_line prompt search_state query replacement answer = if takes_line prompt then Some answer else None

@@ -3,11 +3,11 @@
 use Rattle.std.specs.Prelude.{ℕ, ◌==◌, Bool, true, false, ◌&&◌, ◌||◌, not, if◌then◌else◌, is_some, List, length, Option, Some, None}
 use Rattle.bx_keys.specs.declared.key.Key.{Key}
 use Rattle.bx_keys.specs.declared.key.Key.TheVariants.{Insert, Erase, Delete, Back, Forward, Up, Down, Right, Left, RowHome, RowEnd, PageUp, PageDown}
-use Rattle.bx_keys.specs.declared.key.Key.TheVariants.{Save, Quit, Undo, Redo, Repaint, Direction, Size, Mark, Copy, Cut, Put}
+use Rattle.bx_keys.specs.declared.key.Key.TheVariants.{Save, Quit, UndoEdit, RedoEdit, Repaint, Direction, Size, Mark, Copy, Cut, Put}
 use Rattle.bx_keys.specs.declared.key.Key.TheVariants.{Find, FindBack, WordLeft, WordRight, TextStart, TextEnd, Help, Notice}
 use Rattle.bx_keys.specs.declared.key.Key.TheVariants.{EraseWord, DeleteWord, ErasePoint, NewLine, FindNext, Cancel, LineUp, LineDown, PageBack, PageOn}
 use Rattle.bx_keys.specs.declared.key.Key.TheVariants.{AskOverwrite, Drag, Fill, FindPrevious, SaveAs, ScrollBack, ScrollOn, SelectAll}
-use Rattle.bx_keys.specs.declared.key.Key.TheVariants.{Select, UndoRun, RedoRun, GoTo, Replace, Name, Tell, PasteStart, PasteEnd, Point}
+use Rattle.bx_keys.specs.declared.key.Key.TheVariants.{Select, Undo, Redo, GoTo, Replace, Name, Tell, PasteStart, PasteEnd, Point}
 use Rattle.bx_store.specs.declared.store.StoreFault.{StoreFault}
 use Rattle.bx_document.specs.declared.history.HistoryStep.TheVariants as steps
 use Rattle.bx_paragraph.specs.declared.moves.Visual.TheVariants as visual
@@ -80,10 +80,10 @@ effect_of d e (Point row column) = Clicks row column
 effect_of d e (Drag row column) = Drags row column
 effect_of d e ScrollBack = Wheels ways.Up
 effect_of d e ScrollOn = Wheels ways.Down
-effect_of d e Undo = Steps steps.Undo
-effect_of d e Redo = Steps steps.Redo
-effect_of d e UndoRun = StepsGroup steps.Undo
-effect_of d e RedoRun = StepsGroup steps.Redo
+effect_of d e UndoEdit = Steps steps.Undo
+effect_of d e RedoEdit = Steps steps.Redo
+effect_of d e Undo = StepsGroup steps.Undo
+effect_of d e Redo = StepsGroup steps.Redo
 effect_of d e Mark = Marks
 effect_of d e Select = Selects
 effect_of d e SelectAll = SelectsAll
@@ -118,10 +118,10 @@ changes_text EraseWord = true
 changes_text DeleteWord = true
 changes_text Cut = true
 changes_text Put = true
+changes_text UndoEdit = true
+changes_text RedoEdit = true
 changes_text Undo = true
 changes_text Redo = true
-changes_text UndoRun = true
-changes_text RedoRun = true
 changes_text Replace = true
 changes_text Name = true
 changes_text Save = true

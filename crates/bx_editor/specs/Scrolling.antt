@@ -3,7 +3,7 @@
 use Rattle.std.specs.Prelude.{ℕ, ◌-◌, ◌==◌, ◌&&◌, ◌||◌, not, max, Bool, true, false, if◌then◌else◌}
 use Rattle.bx_ucd.specs.Data.{Data}
 use Rattle.bx_keys.specs.declared.key.Key.{Key}
-use Rattle.bx_keys.specs.declared.key.Key.TheVariants.{Find, FindBack, FindNext, FindPrevious, Replace, UndoRun, RedoRun, Fill, PageBack, PageOn, ScrollBack}
+use Rattle.bx_keys.specs.declared.key.Key.TheVariants.{Find, FindBack, FindNext, FindPrevious, Replace, Undo, Redo, Fill, PageBack, PageOn, ScrollBack}
 use Rattle.bx_keys.specs.declared.key.Key.TheVariants.{ScrollOn, Insert, NewLine, Erase, ErasePoint, Delete, Quit, Copy, Cancel, Put, EraseWord, DeleteWord}
 use Rattle.bx_view.specs.declared.moves.Vertical.TheVariants.{Up, Down}
 use Rattle.bx_view.specs.Top.{centred, filled, top_away}
@@ -24,8 +24,8 @@ goes_far FindBack = true
 goes_far FindNext = true
 goes_far FindPrevious = true
 goes_far Replace = true
-goes_far UndoRun = true
-goes_far RedoRun = true
+goes_far Undo = true
+goes_far Redo = true
 goes_far _ = false
 
 -- a line end, which goes to the line that was asked for

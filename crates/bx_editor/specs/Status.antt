@@ -54,14 +54,14 @@ failed_text (Some cause) = codes "save failed: " ++ cause_text cause
 
 -- the words of a notice of the host
 abbrev pub notice_text : told.Notice → List ℕ
-notice_text notices.NoSpace = codes "no copy is kept: no space"
-notice_text notices.FolderGone = codes "no copy is kept: folder gone"
-notice_text notices.NotPermitted = codes "no copy is kept: not permitted"
-notice_text notices.ReadOnly = codes "no copy is kept: read-only disk"
-notice_text notices.Unkept = codes "no copy is kept"
-notice_text notices.KeptAgain = codes "a copy is kept again"
+notice_text notices.NoSpace = codes "no crash copy: no space"
+notice_text notices.FolderGone = codes "no crash copy: folder gone"
+notice_text notices.NotPermitted = codes "no crash copy: not permitted"
+notice_text notices.ReadOnly = codes "no crash copy: read-only disk"
+notice_text notices.Unkept = codes "no crash copy"
+notice_text notices.KeptAgain = codes "crash copy again"
 notice_text notices.Recovered = codes "recovered"
-notice_text notices.RecoveredAside = codes "recovered beside: see the end"
+notice_text notices.RecoveredAside = codes "recovered to a new file, named on exit"
 notice_text notices.InPlace = codes "saves overwrite it in place"
 
 -- the words of a message; what is before or in place of them is in `shown_text`

@@ -100,7 +100,7 @@ impl<D: BidiData + Drop> Editor<D> {
             (rows (D.data self.old.tables) self.old.editor) back self.old.editor.place) }
         ensures range { IfOk result (λ p. IsRange self.old.editor.content.text p self.old.editor.place) }
     {
-        // The proof compares the place, so it has a name.
+        // The proof refers to the place by this name.
         let place = self.document.moved(back, self.cursor.place)?;
         Ok(place)
     }
@@ -113,7 +113,7 @@ impl<D: BidiData + Drop> Editor<D> {
             (rows (D.data self.old.tables) self.old.editor) on self.old.editor.place) }
         ensures range { IfOk result (λ p. IsRange self.old.editor.content.text self.old.editor.place p) }
     {
-        // The proof compares the place, so it has a name.
+        // The proof refers to the place by this name.
         let place = self.document.moved(on, self.cursor.place)?;
         Ok(place)
     }

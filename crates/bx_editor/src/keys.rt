@@ -55,7 +55,7 @@ fn changes_text(key: Key) -> bool
     match key {
         Key::Insert(_) | Key::NewLine | Key::Put | Key::Cut => true,
         Key::Erase | Key::ErasePoint | Key::Delete | Key::EraseWord | Key::DeleteWord => true,
-        Key::Undo | Key::Redo | Key::UndoRun | Key::RedoRun => true,
+        Key::UndoEdit | Key::RedoEdit | Key::Undo | Key::Redo => true,
         Key::Replace | Key::Name | Key::Save => true,
         _ => false,
     }
@@ -259,10 +259,10 @@ impl<D: BidiData + Drop> Editor<D> {
             Key::ScrollOn => self.wheel(Vertical::Down)?,
             Key::FindNext => self.go_to_next()?,
             Key::FindPrevious => self.go_to_previous()?,
-            Key::Undo => self.step(HistoryStep::Undo)?,
-            Key::Redo => self.step(HistoryStep::Redo)?,
-            Key::UndoRun => self.step_group(HistoryStep::Undo)?,
-            Key::RedoRun => self.step_group(HistoryStep::Redo)?,
+            Key::UndoEdit => self.step(HistoryStep::Undo)?,
+            Key::RedoEdit => self.step(HistoryStep::Redo)?,
+            Key::Undo => self.step_group(HistoryStep::Undo)?,
+            Key::Redo => self.step_group(HistoryStep::Redo)?,
             Key::Copy => self.copy()?,
             Key::Cut => self.cut()?,
             Key::Put => self.put()?,

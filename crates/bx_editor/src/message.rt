@@ -75,7 +75,7 @@ fn failed_text(cause: Option<SaveCause>) -> &'static str
         Some(SaveCause::Changed) => "file changed on disk",
         Some(SaveCause::NotPlain) => "save failed: not a plain file",
         Some(SaveCause::CutOff) => {
-            "save failed: file cut off, its whole text is in a .bx file beside it"
+            "save failed: file incomplete, its whole text is in a .bx file next to it"
         }
         Some(SaveCause::Exists) => "not saved, file exists: ^O again",
         Some(SaveCause::Other) => "save failed: disk error",
@@ -87,14 +87,14 @@ fn notice_text(notice: Notice) -> &'static str
     ensures { result.now ≡ notice_text notice }
 {
     match notice {
-        Notice::NoSpace => "no copy is kept: no space",
-        Notice::FolderGone => "no copy is kept: folder gone",
-        Notice::NotPermitted => "no copy is kept: not permitted",
-        Notice::ReadOnly => "no copy is kept: read-only disk",
-        Notice::Unkept => "no copy is kept",
-        Notice::KeptAgain => "a copy is kept again",
+        Notice::NoSpace => "no crash copy: no space",
+        Notice::FolderGone => "no crash copy: folder gone",
+        Notice::NotPermitted => "no crash copy: not permitted",
+        Notice::ReadOnly => "no crash copy: read-only disk",
+        Notice::Unkept => "no crash copy",
+        Notice::KeptAgain => "crash copy again",
         Notice::Recovered => "recovered",
-        Notice::RecoveredAside => "recovered beside: see the end",
+        Notice::RecoveredAside => "recovered to a new file, named on exit",
         Notice::InPlace => "saves overwrite it in place",
     }
 }

@@ -54,7 +54,7 @@ impl<D: BidiData + Drop> Editor<D> {
         ensures start_place { IfOk result (λ part. IsTextPlace (D.data self.old.tables) self.old.editor.content.text part.start) }
         ensures stop_place { IfOk result (λ part. IsTextPlace (D.data self.old.tables) self.old.editor.content.text part.stop) }
     {
-        // The proof compares the parts, so they have names, and `len` promises that the text is UTF-8.
+        // The proof refers to the parts by name, and `len` promises that the text is UTF-8.
         let _utf8 = self.document.len();
         match extent {
             Extent::Unit => {

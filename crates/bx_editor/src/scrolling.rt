@@ -39,7 +39,7 @@ fn goes_far(key: Key) -> bool
 {
     match key {
         Key::Find | Key::FindBack | Key::FindNext | Key::FindPrevious => true,
-        Key::Replace | Key::UndoRun | Key::RedoRun => true,
+        Key::Replace | Key::Undo | Key::Redo => true,
         _ => false,
     }
 }

@@ -46,7 +46,7 @@ pub(crate) fn status_line(
     ensures line { IfOk result (λ t. string_bytes t ≡ status_line changed paragraph unit) }
     ensures printable { IfOk result (λ t. are_ascii_printable (string_bytes t) ≡ true) }
 {
-    // The proof compares the text, so it has a name.
+    // The proof refers to the text by this name.
     let line = write_line(alloc, changed, paragraph, unit)?;
     Ok(line)
 }
@@ -176,7 +176,7 @@ impl<D: BidiData + Drop> Editor<D> {
             let row = self.document.draw_text(text.as_str(), end)?;
             return Ok(StatusRow { row, column: None });
         };
-        // The proof compares the row, so it has a name.
+        // The proof refers to the row by this name.
         let row = self
             .document
             .draw_input(text.as_str(), line, self.input_cursor, end)?;

@@ -11,11 +11,11 @@ use Rattle.bx_keys.specs.Keys.{Decoding, decoding, key_after, rest_after}
 use Rattle.bx_keys.specs.Laws.{RestsWait, ComesInPieces, HasParts, keys_of_items}
 use Rattle.bx_keys.specs.Waiting.{fate}
 use Rattle.bx_keys.specs.declared.key.Key.{Key}
-use Rattle.bx_keys.specs.declared.key.Key.TheVariants.{Insert, Erase, Delete, Up, Down, Right, Left, RowHome, RowEnd, PageUp, PageDown, Quit, Undo, Redo}
+use Rattle.bx_keys.specs.declared.key.Key.TheVariants.{Insert, Erase, Delete, Up, Down, Right, Left, RowHome, RowEnd, PageUp, PageDown, Quit, UndoEdit, RedoEdit}
 use Rattle.bx_keys.specs.declared.key.Key.TheVariants.{Direction, Size, Point, Drag, Notice}
 use Rattle.bx_keys.specs.declared.key.Key.TheVariants.{Mark, Copy, Cut, Put, Find, FindBack, WordLeft, WordRight, TextStart, TextEnd, Help}
 use Rattle.bx_keys.specs.declared.key.Key.TheVariants.{EraseWord, DeleteWord, FindNext, Cancel, ErasePoint, NewLine, LineUp, LineDown, PageBack, PageOn}
-use Rattle.bx_keys.specs.declared.key.Key.TheVariants.{Select, UndoRun, RedoRun, GoTo, Replace, Name, Tell, PasteStart, PasteEnd}
+use Rattle.bx_keys.specs.declared.key.Key.TheVariants.{Select, Undo, Redo, GoTo, Replace, Name, Tell, PasteStart, PasteEnd}
 use Rattle.bx_keys.specs.declared.key.Key.TheVariants.{SelectAll, FindPrevious, Fill, SaveAs, ScrollBack, ScrollOn, AskOverwrite}
 use Rattle.bx_keys.specs.declared.notice.Notice.TheVariants.{NoSpace, InPlace}
 
@@ -61,7 +61,7 @@ pub notices : keys (codes "\u{1b}[>1~\u{1b}[>9~\u{1b}[>0~\u{1b}[>10~\u{1b}[>1") 
 notices = refl
 
 pub selections_runs_and_pastes : keys (codes "\u{1b}[81~\u{1b}[82~\u{1b}[83~\u{1b}[90~\u{1b}[91~")
-    ≡ Select ∷ UndoRun ∷ RedoRun ∷ PasteStart ∷ PasteEnd ∷ []
+    ≡ Select ∷ Undo ∷ Redo ∷ PasteStart ∷ PasteEnd ∷ []
 selections_runs_and_pastes = refl
 
 pub questions : keys (codes "\u{1b}[84~\u{1b}[85~\u{1b}[86~\u{1b}[87~") ≡ GoTo ∷ Replace ∷ Name ∷ Tell ∷ []
@@ -85,7 +85,7 @@ unknown_sequence = refl
 pub broken_character : decoding (0xD7 ∷ 0x78 ∷ 0xE0 ∷ 0x41 ∷ []) ≡ record { keys = Insert 0x78 ∷ Insert 0x41 ∷ []; rest = [] }
 broken_character = refl
 
-pub combining : decoding (0xCC ∷ 0x81 ∷ 0x7F ∷ 0x1A ∷ 0x19 ∷ []) ≡ record { keys = Insert 0x301 ∷ Erase ∷ Undo ∷ Redo ∷ []; rest = [] }
+pub combining : decoding (0xCC ∷ 0x81 ∷ 0x7F ∷ 0x1A ∷ 0x19 ∷ []) ≡ record { keys = Insert 0x301 ∷ Erase ∷ UndoEdit ∷ RedoEdit ∷ []; rest = [] }
 unfolding chars
 combining = refl
 

@@ -10,10 +10,10 @@ use Rattle.bx_bytes.specs.Utf8.{is_ascii_printable}
 use Rattle.bx_keys.specs.Items.{is_item, begins_item}
 use Rattle.bx_keys.specs.declared.key.Key.{Key}
 use Rattle.bx_keys.specs.declared.key.Key.TheVariants.{Insert, Erase, Delete, Back, Forward, Up, Down, Right, Left, RowHome, RowEnd, PageUp, PageDown, Save}
-use Rattle.bx_keys.specs.declared.key.Key.TheVariants.{Quit, Undo, Redo, Repaint, Direction, Size, Point, Drag, Notice}
+use Rattle.bx_keys.specs.declared.key.Key.TheVariants.{Quit, UndoEdit, RedoEdit, Repaint, Direction, Size, Point, Drag, Notice}
 use Rattle.bx_keys.specs.declared.key.Key.TheVariants.{Mark, Copy, Cut, Put, Find, FindBack, WordLeft, WordRight, TextStart, TextEnd, Help}
 use Rattle.bx_keys.specs.declared.key.Key.TheVariants.{EraseWord, DeleteWord, FindNext, Cancel, ErasePoint, NewLine, LineUp, LineDown, PageBack, PageOn}
-use Rattle.bx_keys.specs.declared.key.Key.TheVariants.{Select, UndoRun, RedoRun, GoTo, Replace, Name, Tell, PasteStart, PasteEnd}
+use Rattle.bx_keys.specs.declared.key.Key.TheVariants.{Select, Undo, Redo, GoTo, Replace, Name, Tell, PasteStart, PasteEnd}
 use Rattle.bx_keys.specs.declared.key.Key.TheVariants.{SelectAll, FindPrevious, Fill, SaveAs, ScrollBack, ScrollOn, AskOverwrite}
 use Rattle.bx_keys.specs.declared.notice.Notice.TheVariants as notices
 
@@ -23,7 +23,7 @@ use Rattle.bx_keys.specs.declared.notice.Notice.TheVariants as notices
 abbrev pub control_keys : List (ℕ × Key)
 control_keys =
     (0x02, Back) ∷ (0x06, Forward) ∷ (0x08, Erase) ∷ (0x7F, Erase) ∷ (0x09, Insert 0x09) ∷ (0x0A, Insert 0x0A)
-    ∷ (0x0D, Insert 0x0A) ∷ (0x0C, Repaint) ∷ (0x11, Quit) ∷ (0x13, Save) ∷ (0x19, Redo) ∷ (0x1A, Undo) ∷ []
+    ∷ (0x0D, Insert 0x0A) ∷ (0x0C, Repaint) ∷ (0x11, Quit) ∷ (0x13, Save) ∷ (0x19, RedoEdit) ∷ (0x1A, UndoEdit) ∷ []
 
 -- the key of an item of one byte below 80
 abbrev pub single_key : ℕ → Option Key
@@ -39,7 +39,7 @@ sequence_keys =
     ∷ (codes "9~", Direction) ∷ (codes "70~", Find) ∷ (codes "71~", FindBack)
     ∷ (codes "72~", Mark) ∷ (codes "73~", Copy) ∷ (codes "74~", Cut) ∷ (codes "75~", Put)
     ∷ (codes "76~", WordLeft) ∷ (codes "77~", WordRight) ∷ (codes "78~", TextStart) ∷ (codes "79~", TextEnd)
-    ∷ (codes "80~", Help) ∷ (codes "81~", Select) ∷ (codes "82~", UndoRun) ∷ (codes "83~", RedoRun)
+    ∷ (codes "80~", Help) ∷ (codes "81~", Select) ∷ (codes "82~", Undo) ∷ (codes "83~", Redo)
     ∷ (codes "84~", GoTo) ∷ (codes "85~", Replace) ∷ (codes "86~", Name) ∷ (codes "87~", Tell)
     ∷ (codes "88~", EraseWord) ∷ (codes "89~", DeleteWord) ∷ (codes "90~", PasteStart) ∷ (codes "91~", PasteEnd)
     ∷ (codes "92~", FindNext) ∷ (codes "93~", Cancel) ∷ (codes "94~", ErasePoint) ∷ (codes "95~", NewLine)

@@ -37,9 +37,9 @@ pub enum Key {
     /// Ends the session; asks again where not all is saved.
     Quit,
     /// Takes back the latest edit.
-    Undo,
+    UndoEdit,
     /// Makes the latest edit again that was taken back.
-    Redo,
+    RedoEdit,
     /// Paints the whole picture again.
     Repaint,
     /// Switches to the next base direction: Auto, Ltr, Rtl.
@@ -89,9 +89,9 @@ pub enum Key {
     /// Begins a selection at the place, or goes on with one, so that the next move keeps the mark.
     Select,
     /// Takes back all edits of the latest undo group.
-    UndoRun,
+    Undo,
     /// Makes the edits of the next undo group again.
-    RedoRun,
+    Redo,
     /// Asks for a line.
     GoTo,
     /// Begins a search for what is to be replaced; in one, asks for the replacement, and then replaces one match after another.

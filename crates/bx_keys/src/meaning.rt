@@ -41,8 +41,8 @@ fn single_key(byte: u8) -> Option<Key>
         0x0C => Some(Key::Repaint),
         0x11 => Some(Key::Quit),
         0x13 => Some(Key::Save),
-        0x19 => Some(Key::Redo),
-        0x1A => Some(Key::Undo),
+        0x19 => Some(Key::RedoEdit),
+        0x1A => Some(Key::UndoEdit),
         byte if is_ascii_printable(byte) => Some(Key::Insert(char::from(byte))),
         _ => None,
     }
@@ -167,8 +167,8 @@ fn eighties_key(ones: u8) -> Option<Key>
     match ones {
         b'0' => Some(Key::Help),
         b'1' => Some(Key::Select),
-        b'2' => Some(Key::UndoRun),
-        b'3' => Some(Key::RedoRun),
+        b'2' => Some(Key::Undo),
+        b'3' => Some(Key::Redo),
         b'4' => Some(Key::GoTo),
         b'5' => Some(Key::Replace),
         b'6' => Some(Key::Name),

@@ -166,15 +166,15 @@ abbrev pub word_around : Data → List ℕ → ℕ → ℕ × ℕ
 word_around ucd body start =
     unwrap_or (find (λ w. nat_le w.0 start && nat_lt start w.1) (word_spans ucd Other Other 0 (graphemes true body))) (start, unit_stop body start)
 
--- from a place to the end of the unit that begins there; at its body's end from that to that
+-- the range of the unit that begins at a place; at the end of a body it is empty
 abbrev pub unit_at : Data → List ℕ → ℕ → ℕ × ℕ
 unit_at ucd text place =
     let number = paragraph_number ucd text place in
     let start = start_at ucd text number in
     (place, start + unit_stop (body_at ucd text number) (place - start))
 
--- The word of the unit that begins at a place, or the unit alone if it is of no word; at its body's end those of the body's last
--- unit; in an empty body from the place to the place.
+-- The range of the word that has the unit at a place, or of that unit alone if it belongs to no word. At the end of a body its last
+-- unit counts; in an empty body the range is empty.
 abbrev pub stretch_at : Data → List ℕ → ℕ → ℕ × ℕ
 stretch_at ucd text place =
     let number = paragraph_number ucd text place in

@@ -70,7 +70,7 @@ fn place_in_body<D: BidiData>(
     if row + 1 < rows {
         return Ok(paragraph.first(row + 1));
     }
-    // The proof compares the place, so it has a name.
+    // The proof refers to the place by this name.
     let last = lent.last()?;
     Ok(last)
 }

@@ -31,7 +31,7 @@ impl View {
             return Ok(place);
         }
         let Some(next) = self.next_row(text_ref, at)? else {
-            // The proof compares the place, so it has a name.
+            // The proof refers to the place by this name.
             let last = last_place(&self.row(text_ref, at))?;
             return Ok(last);
         };

@@ -12,7 +12,7 @@ use bx_common::OutOfMemory;
 use bx_ucd::BidiData;
 
 impl View {
-    /// The row `at`, or the last row from which `t` rows are there, whichever is above; the first row in a text of fewer.
+    /// The row `at`, or the last row that has `t` rows from it to the text's end, whichever is above; the first row of a shorter text.
     fn row_to_fill<D: BidiData>(
         &mut self,
         text_ref: &TextRef<'_, D>,
@@ -26,13 +26,13 @@ impl View {
             → IfOk result (λ b. StandsOn text_ref.now self.new b (min n (last_top (length (rows text_ref.now self.old)) t))) }
     {
         let last = rows_down(self, text_ref, at, t - 1)?;
-        // The proof compares the row, so it has a name.
+        // The proof refers to the row by this name.
         let there = rows_up(self, text_ref, last, t - 1)?;
         Ok(there)
     }
 
-    /// The offset of the top row by which `t` rows are visible, or all of a text that has fewer: the row of the offset `top`, or the
-    /// last row from which there are `t`.
+    /// The offset of the top row of a window of `t` rows that the text fills: that of the row at the offset `top`, or of the last row
+    /// that has `t` rows from it to the text's end, whichever is above. A shorter text begins at its first row.
     pub fn filled<D: BidiData>(
         &mut self,
         text_ref: &TextRef<'_, D>,
@@ -49,8 +49,8 @@ impl View {
         Ok(self.first_in(text_ref, there))
     }
 
-    /// The offset of the top row `n` rows above or below that of the offset `top`. A move down goes on only to the last row from which
-    /// there are `t` rows, and stays where the top row is below it.
+    /// The offset of the top row after a window of `t` rows at the offset `top` moves by `n` rows. It moves down only as long as the text
+    /// fills the window.
     pub fn top_away<D: BidiData>(
         &mut self,
         text_ref: &TextRef<'_, D>,
@@ -100,8 +100,8 @@ impl View {
         Ok(self.first_in(text_ref, nearest) == old)
     }
 
-    /// The offset of the top row by which the row of a place is visible: of the offset `top`, if it is visible already; else of the row
-    /// by which it stands in the middle of the `t` rows, or as near to it as the text's ends allow.
+    /// The offset of the top row that shows the row of a place: `top`'s own if that row is one of its `t` rows; else the one that puts
+    /// that row in the middle of the window, or as near to it as the text's ends allow.
     pub fn centred<D: BidiData>(
         &mut self,
         text_ref: &TextRef<'_, D>,

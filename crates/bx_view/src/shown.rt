@@ -28,7 +28,7 @@ impl View {
         ensures widths { IfOk result (λ p. All (λ g. run_width (cow_str_bytes g.text) ≡ g.columns) p.glyphs.items) }
         ensures columns { IfOk result (λ p. sum_by (λ g. g.columns) p.glyphs.items ≡ self.now.w) }
     {
-        // The proof compares the picture, so it has a name.
+        // The proof refers to the picture by this name.
         let picture = self.row(text_ref, at).picture()?;
         Ok(picture)
     }

@@ -37,7 +37,7 @@ fn starts_in<D: BidiData>(
     let Ok(body) = text_ref.text.copy_range(span.start, span.stop) else {
         return Err(OutOfMemory);
     };
-    // The proof compares the row starts, so they have a name.
+    // The proof refers to the row starts by this name.
     let starts = row_starts(alloc, body.as_str(), text_ref.tables, w)?;
     Ok(starts)
 }
@@ -86,7 +86,7 @@ pub fn row_count<D: BidiData>(
     ensures { IfOk result (λ n. n ≡ length (rows text_ref.now view.now)) }
 {
     let count = text_ref.index.count();
-    // The proof compares the number, so it has a name.
+    // The proof refers to the number by this name.
     let rows = rows_before(alloc, text_ref, view.width(), count)?;
     Ok(rows)
 }

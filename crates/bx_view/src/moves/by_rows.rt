@@ -73,7 +73,7 @@ fn row_away<D: BidiData>(
     ensures row { (n : ℕ) → StandsOn text_ref.now view.old at n
         → IfOk result (λ b. StandsOn text_ref.now view.new b (row_away (length (rows text_ref.now view.old)) way count n)) }
 {
-    // The proof compares the row, so each arm names it.
+    // The proof refers to the row by the name in each arm.
     match way {
         Vertical::Up => {
             let there = rows_up(view, text_ref, at, count)?;
@@ -97,7 +97,7 @@ fn goal_in<D: BidiData>(
 {
     match goal {
         Goal::Column(column) => {
-            // The proof compares the place, so it has a name.
+            // The proof refers to the place by this name.
             let entry = entry(row, column)?;
             Ok(entry)
         }
@@ -150,7 +150,7 @@ pub(crate) fn rows_away<D: BidiData>(
     let at = view.row_at(text_ref, place)?;
     let own = view.first_in(text_ref, at);
     let there = row_away(view, text_ref, way, count, at)?;
-    // The proof compares the place, so it has a name.
+    // The proof refers to the place by this name.
     let place = to_row(view, text_ref, goal, place, own, there)?;
     Ok(place)
 }
@@ -168,7 +168,7 @@ pub(crate) fn rows_straight<D: BidiData>(
     ensures place { IfOk result (λ o. o ≡ rows_straight view.old.w (rows text_ref.now view.old) way count place) }
 {
     let column = view.cell_of(text_ref, place)?;
-    // The proof compares the place, so it has a name.
+    // The proof refers to the place by this name.
     let place = rows_away(view, text_ref, way, count, Goal::Column(column), place)?;
     Ok(place)
 }

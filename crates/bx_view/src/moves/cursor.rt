@@ -25,7 +25,7 @@ fn led_by<D: BidiData>(
     ensures keeps { Keeps text_ref.now view.old view.new }
     ensures place { IfOk result (λ o. o ≡ moved (D.data text_ref.now.tables.now) (bytes text_ref.now) view.old.w (rows text_ref.now view.old) m place) }
 {
-    // The proof compares the place, so each arm names it.
+    // The proof refers to the place by the name in each arm.
     match m {
         Move::Logical(way) => {
             let place = step_logical(view, text_ref, way, place)?;
@@ -82,7 +82,7 @@ pub fn moved<D: BidiData>(
 {
     // `width` promises that the width is from 1 to 500.
     let _side = view.width();
-    // The proof compares the place, so it has a name.
+    // The proof refers to the place by this name.
     let place = led_by(view, text_ref, m, place)?;
     Ok(place)
 }

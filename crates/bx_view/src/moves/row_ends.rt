@@ -33,7 +33,7 @@ pub(crate) fn row_end<D: BidiData>(
     ensures end { IfOk result (λ o. o ≡ row_end (rows text_ref.now view.old) place) }
 {
     let at = view.row_at(text_ref, place)?;
-    // The proof compares the place, so it has a name.
+    // The proof refers to the place by this name.
     let end = last_place(&view.row(text_ref, at))?;
     Ok(end)
 }

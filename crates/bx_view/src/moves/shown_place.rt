@@ -54,7 +54,7 @@ pub fn to_shown<D: BidiData>(
     let own = view.first_in(text_ref, at);
     let first = view.row_at(text_ref, top)?;
     if own < view.first_in(text_ref, first) {
-        // The proof compares the place, so it has a name.
+        // The proof refers to the place by this name.
         let place = to_row(view, text_ref, goal, place, own, first)?;
         return Ok(place);
     }

@@ -145,8 +145,8 @@ pub fn unit_at<D: BidiData>(
     })
 }
 
-/// The word of the unit that begins at a place, or the unit alone if it is of no word; at its body's end those of the body's last
-/// unit; in an empty body from the place to the place.
+/// The range of the word that has the unit at `place`, or of that unit alone if it belongs to no word. At the end of a body its last
+/// unit counts; in an empty body the range is empty.
 pub fn stretch_at<D: BidiData>(
     view: &mut View,
     text_ref: &TextRef<'_, D>,

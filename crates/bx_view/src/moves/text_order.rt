@@ -47,7 +47,7 @@ fn step_back<D: BidiData>(
     let Some(above) = view.row_before(text_ref, at)? else {
         return Ok(place);
     };
-    // The proof compares the place, so it has a name.
+    // The proof refers to the place by this name.
     let last = last_place(&view.row(text_ref, above))?;
     Ok(last)
 }
@@ -63,7 +63,7 @@ pub(crate) fn step_logical<D: BidiData>(
     ensures keeps { Keeps text_ref.now view.old view.new }
     ensures step { IfOk result (λ o. o ≡ step_logical (rows text_ref.now view.old) way place) }
 {
-    // The proof compares the place, so each arm names it.
+    // The proof refers to the place by the name in each arm.
     match way {
         Logical::Forward => {
             let place = step_forward(view, text_ref, place)?;

@@ -23,7 +23,7 @@ fn start_after<D: BidiData>(
     let Some(there) = view.next_row(text_ref, at)? else {
         return Ok(None);
     };
-    // The proof compares the place, so it has a name.
+    // The proof refers to the place by this name.
     let place = reading_start(&view.row(text_ref, there))?;
     Ok(place)
 }
@@ -42,7 +42,7 @@ fn end_before<D: BidiData>(
     let Some(there) = view.row_before(text_ref, at)? else {
         return Ok(None);
     };
-    // The proof compares the place, so it has a name.
+    // The proof refers to the place by this name.
     let place = reading_end(&view.row(text_ref, there))?;
     Ok(place)
 }
@@ -60,7 +60,7 @@ fn past<D: BidiData>(
     ensures place { (n : ℕ) → StandsOn text_ref.now view.old at n
         → IfOk result (λ o. o ≡ past view.old.w (rows text_ref.now view.old) side n) }
 {
-    // The proof compares the place, so it has a name on both ways.
+    // The proof refers to the place by this name.
     if reads_on(&view.row(text_ref, at), side) {
         let place = start_after(view, text_ref, at)?;
         return Ok(place);

@@ -128,7 +128,7 @@ pub(crate) fn step_word<D: BidiData>(
     ensures keeps { Keeps text_ref.now view.old view.new }
     ensures place { IfOk result (λ o. o ≡ step_word (D.data text_ref.now.tables.now) (bytes text_ref.now) way place) }
 {
-    // The proof compares the place, so each arm names it.
+    // The proof refers to the place by the name in each arm.
     match way {
         Logical::Forward => {
             let place = word_forward(view, text_ref, place)?;
@@ -154,7 +154,7 @@ pub(crate) fn word_towards<D: BidiData>(
 {
     let at = view.row_at(text_ref, place)?;
     let way = word_way(reads_on(&view.row(text_ref, at), side));
-    // The proof compares the place, so it has a name.
+    // The proof refers to the place by this name.
     let place = step_word(view, text_ref, way, place)?;
     Ok(place)
 }

@@ -5,7 +5,7 @@ use Rattle.bx_rows.specs.Shown.{glyph_of}
 use Rattle.bx_document.specs.Narrow.{IsWellDrawn}
 use Rattle.bx_document.proofs.status_row.push_blanks.Given as goal
 
--- so many blanks were appended
+-- the loop has appended `counter` blanks
 abbrev pub invariant-loop : goal.invariant-loop
 invariant-loop l =
     (map glyph_of l.glyphs.items ≡ map glyph_of l.fn.glyphs.items ++ replicate l.counter blank)
