@@ -26,24 +26,44 @@ pub enum ProgramFault<'a> {
 }
 
 impl From<UcdError> for ProgramFault<'_> {
+    ghost use Rattle.std.specs.Prelude.{◌≡◌};
+    ghost use Rattle.bidi_print.specs.declared.fault.ProgramFault.TheVariants.{Tables};
+
+    ghost from_gives = { λ error fault. fault ≡ Tables error };
+
     fn from(error: UcdError) -> Self {
         ProgramFault::Tables(error)
     }
 }
 
 impl<'a> From<FileFault<'a>> for ProgramFault<'a> {
+    ghost use Rattle.std.specs.Prelude.{◌≡◌};
+    ghost use Rattle.bidi_print.specs.declared.fault.ProgramFault.TheVariants.{File};
+
+    ghost from_gives = { λ error fault. fault ≡ File error };
+
     fn from(fault: FileFault<'a>) -> Self {
         ProgramFault::File(fault)
     }
 }
 
 impl From<PrintError> for ProgramFault<'_> {
+    ghost use Rattle.std.specs.Prelude.{◌≡◌};
+    ghost use Rattle.bidi_print.specs.declared.fault.ProgramFault.TheVariants.{Print};
+
+    ghost from_gives = { λ error fault. fault ≡ Print error };
+
     fn from(error: PrintError) -> Self {
         ProgramFault::Print(error)
     }
 }
 
 impl From<AllocError> for ProgramFault<'_> {
+    ghost use Rattle.std.specs.Prelude.{◌≡◌};
+    ghost use Rattle.bidi_print.specs.declared.fault.ProgramFault.TheVariants.{OutOfMemory};
+
+    ghost from_gives = { λ _ fault. fault ≡ OutOfMemory };
+
     fn from(_error: AllocError) -> Self {
         ProgramFault::OutOfMemory
     }

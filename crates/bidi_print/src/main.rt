@@ -5,13 +5,17 @@
 //! 0: all was written; 1: a fault, with a line on standard error; 2: the command line was refused, and standard error says why.
 #![tactic(auto)]
 
+ghost use Rattle.std.specs.Prelude.{OnOk};
+ghost use Rattle.bidi_print.specs.Printing.{IsPrinted};
+
 mod fault;
 mod printing;
 mod words;
 
-use bx_command::{FileFault, UnicodeFiles, finish, refuse, refuse_words, text_of, words_of};
+use bx_command::{InputFiles, UnicodeFiles, finish, found_text, refuse, refuse_words, words_of};
 use fault::ProgramFault;
 use printing::print_bytes;
+use std::alloc::Global;
 use std::io::Write;
 use std::process::ExitCode;
 use words::{Options, command_line};
@@ -20,22 +24,18 @@ use words::{Options, command_line};
 const NAME: &str = "bidi_print";
 
 /// Carries out the command line.
-fn program<'a, W: Write>(
-    rt: &HostRuntime,
+fn program<'a, F: InputFiles, W: Write>(
+    files: &F,
+    alloc: Global,
     options: &Options<'a>,
     writer: &mut W,
-) -> Result<(), ProgramFault<'a>> {
-    let unicode = UnicodeFiles::read(rt, &options.unicode)?;
-    let Some(bytes) = text_of(rt, options.file)? else {
-        return Err(FileFault::Unreadable(options.file).into());
-    };
-    print_bytes(
-        rt.alloc(),
-        writer,
-        bytes.as_slice(),
-        &unicode,
-        options.style,
-    )
+) -> Result<(), ProgramFault<'a>>
+    ensures { OnOk result (IsPrinted (F.answers files.now) options.now (W.contents writer.old) (W.contents writer.new)) }
+{
+    let unicode = UnicodeFiles::read(files, alloc, &options.unicode)?;
+    let bytes = found_text(files, alloc, options.file)?;
+    print_bytes(alloc, writer, bytes.as_slice(), &unicode, options.style)?;
+    Ok(())
 }
 
 fn main(rt: HostRuntime) -> ExitCode {
@@ -45,7 +45,7 @@ fn main(rt: HostRuntime) -> ExitCode {
     };
     match command_line(rt.alloc(), words.as_slice()) {
         Ok(options) => {
-            let outcome = program(&rt, &options, &mut rt.stdout());
+            let outcome = program(&rt, rt.alloc(), &options, &mut rt.stdout());
             finish(&rt, NAME, outcome)
         }
         Err(error) => refuse(&rt, NAME, &error),

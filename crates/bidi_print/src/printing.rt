@@ -1,7 +1,7 @@
 //! Printing of a file's bytes.
 
-ghost use Rattle.std.specs.Prelude.{◌≡◌, None, OnOk};
-ghost use Rattle.bx_command.specs.shared.Tables.{refused_line};
+ghost use Rattle.std.specs.Prelude.{◌≡◌, IfErr, IfOk, OnOk, string_bytes};
+ghost use Rattle.bidi_print.specs.Printing.{IsFirstFault, IsPage};
 
 use crate::fault::ProgramFault;
 use bx_command::UnicodeFiles;
@@ -12,7 +12,9 @@ use std::alloc::{AllocError, Global};
 use std::io::Write;
 
 /// An owned copy of a text.
-fn copy_of(alloc: Global, characters: &str) -> Result<String, AllocError> {
+fn copy_of(alloc: Global, characters: &str) -> Result<String, AllocError>
+    ensures { IfOk result (λ text. string_bytes text ≡ characters.now) }
+{
     let mut text = String::with_capacity(alloc, characters.len())?;
     text.push_str(characters)?;
     Ok(text)
@@ -28,7 +30,8 @@ pub fn print_bytes<W: Write>(
     unicode: &UnicodeFiles<Vec<u8>>,
     style: Style,
 ) -> Result<(), ProgramFault<'static>>
-    ensures { OnOk result (refused_line unicode.now ≡ None) }
+    ensures printed { OnOk result (IsPage style unicode.now bytes.now (W.contents writer.old) (W.contents writer.new)) }
+    ensures refused { IfErr result (IsFirstFault unicode.now bytes.now) }
 {
     let tables = unicode.tables(alloc)?;
     // a file that is too long is cut off, maybe inside a character

@@ -1,10 +1,14 @@
 //! The journal's file: keys are appended to it as they are read, and synced.
 
+ghost use Rattle.std.specs.Prelude.{◌≡◌, IfOk};
 ghost use Rattle.std.specs.Io.{WritesAtMost};
+ghost use Rattle.std.specs.Io.KnownBytes.{WriteAppends};
+ghost use Rattle.bx_command.specs.Journal.{contents_of};
 
-use std::fs::{File, OpenOptions};
-use std::io::{self, ErrorKind, Write};
+use std::fs::{OpenFile, OpenOptions};
+use std::io::{self, Eprint, ErrorKind, Write};
 use std::os::unix::fs::OpenOptionsExt;
+use std::rt::{Clock, Files};
 use std::time::Instant;
 
 /// The byte of the key Save, Ctrl-S.
@@ -37,16 +41,16 @@ pub enum JournalSyncs {
 /// The first failed open, write or flush prints a fault to standard error. The caller writes the missing bytes again, so the
 /// fault ends with a successful flush after a successful write, which is printed too.
 #[derive(Drop)]
-pub struct JournalFile<'a> {
+pub struct JournalFile<'a, R: Files + Clock + Eprint + Copy + Drop> {
     /// Files, clock and standard error of the system.
-    rt: HostRuntime,
+    rt: R,
     /// None if no journal is kept.
     path: Option<&'a str>,
     /// What is written to standard error.
     notes: JournalNotes<'a>,
     syncs: JournalSyncs,
     /// None until it is opened.
-    file: Option<File>,
+    file: Option<R::File>,
     /// When it was last synced; None before the first time.
     synced: Option<Instant>,
     /// Whether a Save was written since it was last synced.
@@ -58,7 +62,7 @@ pub struct JournalFile<'a> {
 }
 
 /// Opens a file for appending. A new file gets permissions for its owner alone (0600).
-fn open_at_end(rt: &HostRuntime, path: &str) -> io::Result<File> {
+fn open_at_end<R: Files>(rt: &R, path: &str) -> io::Result<R::File> {
     OpenOptions::new()
         .append(true)
         .create(true)
@@ -67,8 +71,9 @@ fn open_at_end(rt: &HostRuntime, path: &str) -> io::Result<File> {
 }
 
 /// Writes some of the bytes, from the first on. Writing no byte is an error.
-fn write_some(file: &mut File, buf: &[u8]) -> io::Result<usize>
-    ensures { WritesAtMost result buf.now }
+fn write_some<W: Write>(file: &mut W, buf: &[u8]) -> io::Result<usize>
+    ensures bound { WritesAtMost result buf.now }
+    ensures bytes { WriteAppends (W.contents file.old) (W.contents file.new) result buf.now }
 {
     match file.write(buf) {
         Ok(0) => Err(ErrorKind::WriteZero.into()),
@@ -76,14 +81,14 @@ fn write_some(file: &mut File, buf: &[u8]) -> io::Result<usize>
     }
 }
 
-impl<'a> JournalFile<'a> {
+impl<'a, R: Files + Clock + Eprint + Copy + Drop> JournalFile<'a, R> {
     /// Opens the file at `path`; without a path all writes are discarded. If opening fails, each write tries again.
     pub fn open(
-        rt: HostRuntime,
+        rt: R,
         path: Option<&'a str>,
         notes: JournalNotes<'a>,
         syncs: JournalSyncs,
-    ) -> JournalFile<'a> {
+    ) -> JournalFile<'a, R> {
         let mut journal = JournalFile {
             rt,
             path,
@@ -111,7 +116,9 @@ impl<'a> JournalFile<'a> {
 
     /// Appends some of the bytes, from the first on; opens the file if it is not open yet.
     fn append(&mut self, path: &str, buf: &[u8]) -> io::Result<usize>
-        ensures { WritesAtMost result buf.now }
+        ensures bound { WritesAtMost result buf.now }
+        ensures bytes { WriteAppends (contents_of R.File.Write.contents self.old.file) (contents_of R.File.Write.contents self.new.file) result buf.now }
+        ensures path { self.new.path ≡ self.old.path }
     {
         if let Some(file) = &mut self.file {
             return write_some(file, buf);
@@ -140,7 +147,10 @@ impl<'a> JournalFile<'a> {
     }
 
     /// Notes that all bytes written are on disk.
-    fn note_synced(&mut self) {
+    fn note_synced(&mut self)
+        ensures file { self.new.file ≡ self.old.file }
+        ensures path { self.new.path ≡ self.old.path }
+    {
         self.synced = Instant::now(&self.rt).ok();
         self.holds_save = false;
         if self.has_fault && !self.lacks_bytes {
@@ -151,7 +161,10 @@ impl<'a> JournalFile<'a> {
     }
 
     /// Notes a fault, and prints it unless one is printed that has not ended.
-    fn tell_fault(&mut self) {
+    fn tell_fault(&mut self)
+        ensures file { self.new.file ≡ self.old.file }
+        ensures path { self.new.path ≡ self.old.path }
+    {
         if !self.has_fault {
             self.has_fault = true;
             // if standard error fails, nothing can be reported
@@ -160,7 +173,11 @@ impl<'a> JournalFile<'a> {
     }
 }
 
-impl<'a> Write for JournalFile<'a> {
+impl<'a, R: Files + Clock + Eprint + Copy + Drop> Write for JournalFile<'a, R> {
+    ghost use Rattle.bx_command.specs.Journal.{contents_if};
+
+    ghost contents = { λ j. contents_if j.path (contents_of R.File.Write.contents j.file) };
+
     fn write(&mut self, buf: &[u8]) -> io::Result<usize> {
         let Some(path) = self.path else {
             return Ok(buf.len());

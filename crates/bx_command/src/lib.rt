@@ -16,8 +16,8 @@ pub use journal::{JournalFile, JournalNotes, JournalSyncs, empty_journal};
 pub use line::start_of_line;
 pub use parsed::Options;
 pub use shared::{
-    FileFault, Inner, JoiningFiles, Numbered, Shown, Style, UnicodeFiles, bytes_of, direction,
-    direction_of, finish, flag, is_given, missing_value, option, paths_of, refuse, refuse_words,
-    side, side_of, style_of, text_of, value_of, with_tables, words_of,
+    FileFault, Inner, InputFiles, JoiningFiles, Numbered, Shown, Style, UnicodeFiles, bytes_of,
+    direction, direction_of, finish, flag, found_text, is_given, missing_value, option, paths_of,
+    refuse, refuse_words, side, side_of, style_of, text_of, value_of, with_tables, words_of,
 };
 pub use words::command_line;

@@ -11,6 +11,6 @@ pub use arguments::{
     words_of,
 };
 pub use ending::{finish, refuse, refuse_words};
-pub use files::{FileFault, bytes_of, text_of};
+pub use files::{FileFault, InputFiles, bytes_of, found_text, text_of};
 pub use shown::{Inner, Numbered, Shown, Style, style_of};
 pub use unicode::{JoiningFiles, UnicodeFiles, paths_of, with_tables};

@@ -1,6 +1,6 @@
 -- Worked examples: stores in memory, and what the clause on a refused put leaves open.
 use Rattle.std.proofs.Common.{◌≡◌, ℕ, ◌⊎◌, inl, inr, true, Option, Some, None, Result, Ok, Err, IsOk, OnErr, refl, arith}
-use Rattle.std.specs.Prelude.{codes, false, [], ◌∷◌}
+use Rattle.std.specs.Prelude.{codes, false, []}
 use Rattle.bx_store.specs.Stores.{fault, LacksRoom, MemoryState, after_begin, after_begin_as, after_commit, after_failed_begin, after_failure, after_put, fails_next, no_bytes}
 use Rattle.bx_store.specs.Stores.{cause_of_begin_as, empty_memory, is_changed, is_unanswered, kept_at, no_faults, with_bytes, with_room, with_taken, written_by_another}
 use Rattle.bx_store.specs.declared.cause.SaveCause.TheVariants.{Changed, Exists, NoSpace}

@@ -1,2 +1,5 @@
 pub mod Elsewhere
 pub mod Examples
+pub mod FramesRead
+pub mod SaveExamples
+pub mod TalkSteps

@@ -1,4 +1,10 @@
 pub mod Asking
+pub mod Disk
 pub mod Faults
+pub mod FileStores
+pub mod Frames
+pub mod HostStores
 pub mod Kept
+pub mod SaveLaws
 pub mod Stores
+pub mod Talk

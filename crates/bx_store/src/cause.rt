@@ -2,6 +2,7 @@
 ghost use Rattle.std.specs.Prelude.{◌≡◌};
 ghost use Rattle.bx_store.specs.Stores.{cause_of_kind};
 ghost use Rattle.bx_store.specs.Faults.{cause_text};
+ghost use Rattle.bx_store.specs.HostStores.{IsCauseOf};
 
 use std::io::ErrorKind;
 
@@ -48,8 +49,10 @@ impl SaveCause {
         }
     }
 
-    /// The cause of the host's byte (`host/frames.h`). One that it never sends is `Other`.
-    pub fn of_byte(byte: u8) -> Self {
+    /// The cause of the host's byte (`host/cause.h`). One that it never sends is `Other`.
+    pub fn of_byte(byte: u8) -> Self
+        ensures { IsCauseOf byte result }
+    {
         match byte {
             1 => SaveCause::NoSpace,
             2 => SaveCause::NotPermitted,
@@ -60,6 +63,7 @@ impl SaveCause {
             7 => SaveCause::Changed,
             8 => SaveCause::NotPlain,
             9 => SaveCause::CutOff,
+            10 => SaveCause::Other,
             11 => SaveCause::Exists,
             _ => SaveCause::Other,
         }
@@ -78,7 +82,7 @@ impl SaveCause {
             SaveCause::OutOfMemory => "out of memory",
             SaveCause::Changed => "file changed on disk",
             SaveCause::NotPlain => "not a plain file",
-            SaveCause::CutOff => "file cut off, its whole text is in a .bx file beside it",
+            SaveCause::CutOff => "file incomplete, its whole text is in a .bx file next to it",
             SaveCause::Other => "disk error",
             SaveCause::Exists => "file exists",
         }

@@ -1,6 +1,9 @@
 //! The exit statuses of the programs, and their messages on standard error: 0, 1 for a fault of the run, 2 for a refused
 //! command line.
 
+ghost use Rattle.std.specs.Prelude.{◌≡◌};
+ghost use Rattle.bx_command.specs.shared.Ending.{status_of, status_after};
+
 use crate::shared::shown::Numbered;
 use clap::error::ErrorKind;
 use std::fmt::Display;
@@ -15,7 +18,9 @@ pub fn finish<F: Display + Drop>(
     rt: &HostRuntime,
     program: &str,
     outcome: Result<(), F>,
-) -> ExitCode {
+) -> ExitCode
+    ensures { status_of result ≡ status_after outcome }
+{
     match outcome {
         Ok(()) => ExitCode::SUCCESS,
         Err(fault) => {

@@ -3,12 +3,14 @@
 ghost use Rattle.std.specs.Prelude.{◌≡◌, ◌⊎◌, Some, IfErr, IfOk};
 ghost use Rattle.clap.specs.Words.{app_of, rule_of};
 ghost use Rattle.bx_command.specs.shared.Arguments.{GivesJoining, GivesPaths, rows_in};
+ghost use Rattle.bx_command.specs.shared.Files.{IsFirstUnread};
+ghost use Rattle.bx_command.specs.shared.Reading.{AreJoiningRead, AreRead, AreReadIfAny, joining_paths_in, paths_if_any, paths_in};
 ghost use Rattle.bx_command.specs.shared.Rules.{bound, option_rule, required, table_rules, with_rules};
 ghost use Rattle.bx_command.specs.shared.Tables.{AreOfFiles, NoMemoryInTables, joining_texts, refused_line};
 ghost use Rattle.bx_ucd.specs.Reading.{texts_of};
 
 use crate::shared::arguments::{option, value_of};
-use crate::shared::files::{FileFault, bytes_of};
+use crate::shared::files::{FileFault, InputFiles, bytes_of};
 use bx_ucd::{BidiData, Tables, UcdError};
 use clap::{Arg, ArgMatches, Command};
 use std::alloc::{AllocError, Global};
@@ -94,25 +96,59 @@ fn lent(files: &Option<JoiningFiles<Vec<u8>>>) -> Option<bx_ucd::JoiningFiles<'_
     })
 }
 
+/// Reads the two files by which letters are joined.
+fn read_joining<'a, F: InputFiles>(
+    files: &F,
+    alloc: Global,
+    paths: &JoiningFiles<&'a str>,
+) -> Result<JoiningFiles<Vec<u8>>, FileFault<'a>>
+    ensures read { IfOk result (AreJoiningRead (F.answers files.now) paths.now) }
+    ensures refused { IfErr result (IsFirstUnread (F.answers files.now) (joining_paths_in paths.now)) }
+{
+    let joining = bytes_of(files, alloc, paths.joining)?;
+    let characters = bytes_of(files, alloc, paths.characters)?;
+    Ok(JoiningFiles {
+        joining,
+        characters,
+    })
+}
+
+/// Reads the two files by which letters are joined, if there are any.
+fn read_joining_if_any<'a, F: InputFiles>(
+    files: &F,
+    alloc: Global,
+    paths: &Option<JoiningFiles<&'a str>>,
+) -> Result<Option<JoiningFiles<Vec<u8>>>, FileFault<'a>>
+    ensures read { IfOk result (AreReadIfAny (F.answers files.now) paths.now) }
+    ensures refused { IfErr result (IsFirstUnread (F.answers files.now) (paths_if_any paths.now)) }
+{
+    match paths {
+        Some(paths) => Ok(Some(read_joining(files, alloc, paths)?)),
+        None => Ok(None),
+    }
+}
+
 impl UnicodeFiles<Vec<u8>> {
     /// Reads the files at these paths, in the order of the fields.
     ///
     /// Errors: the fault of the first file that cannot be read.
-    pub fn read<'a>(
-        rt: &HostRuntime,
+    pub fn read<'a, F: InputFiles>(
+        files: &F,
+        alloc: Global,
         paths: &UnicodeFiles<&'a str>,
-    ) -> Result<UnicodeFiles<Vec<u8>>, FileFault<'a>> {
+    ) -> Result<UnicodeFiles<Vec<u8>>, FileFault<'a>>
+        ensures read { IfOk result (AreRead (F.answers files.now) paths.now) }
+        ensures refused { IfErr result (IsFirstUnread (F.answers files.now) (paths_in paths.now)) }
+    {
+        let classes = bytes_of(files, alloc, paths.classes)?;
+        let brackets = bytes_of(files, alloc, paths.brackets)?;
+        let mirroring = bytes_of(files, alloc, paths.mirroring)?;
+        let joining = read_joining_if_any(files, alloc, &paths.joining)?;
         Ok(UnicodeFiles {
-            classes: bytes_of(rt, paths.classes)?,
-            brackets: bytes_of(rt, paths.brackets)?,
-            mirroring: bytes_of(rt, paths.mirroring)?,
-            joining: match &paths.joining {
-                Some(paths) => Some(JoiningFiles {
-                    joining: bytes_of(rt, paths.joining)?,
-                    characters: bytes_of(rt, paths.characters)?,
-                }),
-                None => None,
-            },
+            classes,
+            brackets,
+            mirroring,
+            joining,
         })
     }
 
