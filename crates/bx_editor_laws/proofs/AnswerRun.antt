@@ -1,4 +1,4 @@
--- One UndoRun takes back what an answer put in.
+-- One Undo takes back what an answer put in.
 use Rattle.std.proofs.Common.{◌≡◌, ℕ, suc, ◌+◌, ◌<◌, Bool, true, false, List, length, refl, sym, ap, subst, ◌∙◌, arith, inl, inr, if◌then◌else◌}
 use Rattle.std.specs.Prelude.{◌≢◌, ◌⊎◌, ◌==◌, chars, encode_utf8, Option, Some, None}
 use Rattle.bx_editor.specs.declared.questions.line.Target.{Target}
@@ -36,7 +36,8 @@ use Rattle.bx_editor.proofs.Saved.{IsKeptSaving, deciding-keeps, naming-keeps}
 use Rattle.bx_editor_laws.proofs.AskingKeys.{name-is}
 use Rattle.bx_editor_laws.proofs.KeyEnds.{DoesWork, declined-key, ended-key}
 use Rattle.bx_editor_laws.proofs.OneRun.{goes-back, insertion-begins, IsOneRun}
-use Rattle.bx_editor_laws.proofs.QuestionKeys.{asked-key, last-asked, stays-first, typed-leaves}
+use Rattle.bx_editor_laws.proofs.QuestionKeys.{last-asked, stays-first, typed-leaves}
+use Rattle.bx_editor_laws.proofs.QuestionAnswers.{asked-key}
 use Rattle.bx_editor.proofs.TwoEdits.{runs-of-two}
 
 -- ---- two edits of one undo group
@@ -217,14 +218,14 @@ answer-settled d was Overwrite e key c is h =
 -- ---- the law
 
 grown : (d : Data) (first e now new : Editor) (key : Key) → IsSettled new → PutsRun e new → e.content ≡ first.content → e.place ≡ first.place → now ≡ as_left key new
-    → length first.content.past < length now.content.past → IsBackBefore first (after_key d None now keys.UndoRun)
+    → length first.content.past < length now.content.past → IsBackBefore first (after_key d None now keys.Undo)
 grown d first e now new key settled (inl stays) same at is more =
     let few = ap (λ (x : Editor). length x.content.past) is in
     absurd (omega (arith, more, few, ap (λ t. length t.past) (stays ∙ same)))
 grown d first e now new key settled (inr h) same at is more =
     let works : DoesWork (as_left key new) = record { settled = settled.0; other = λ over. let both = sym h.1 ∙ over in cc both; writes = settled.1 } in
     let back = goes-back d e (as_left key new) works (record { more = h.0.more; over = h.0.over; start = h.0.start }) in
-    subst (λ x. IsBackBefore first (after_key d None x keys.UndoRun)) (sym is)
+    subst (λ x. IsBackBefore first (after_key d None x keys.Undo)) (sym is)
     (record {
       text_is = back.text_is ∙ ap (λ t. t.text) same;
       past_is = back.past_is ∙ ap (λ t. t.past) same;
@@ -232,7 +233,7 @@ grown d first e now new key settled (inr h) same at is more =
     })
 
 answer-back : (d : Data) (first e : Editor) (key : Key) → types key ≡ true → IsSettled e → e.prompt ≢ Off → e.content ≡ first.content → e.place ≡ first.place
-    → length first.content.past < length (after_key d None e key).content.past → IsBackBefore first (after_key d None (after_key d None e key) keys.UndoRun)
+    → length first.content.past < length (after_key d None e key).content.past → IsBackBefore first (after_key d None (after_key d None e key) keys.Undo)
 answer-back d first e (keys.Insert c) h settled on same at more =
     grown d first (cleared e) (after_key d None e (keys.Insert c)) (after_asking d None (before e) e.prompt (cleared e) (keys.Insert c)) (keys.Insert c)
     (answer-settled d (before e) e.prompt (cleared e) (keys.Insert c) c refl settled) (answer-puts d (before e) e.prompt (cleared e) (keys.Insert c) c refl) same at

@@ -7,7 +7,7 @@ use Rattle.unicode_segmentation.proofs.Computing.{unicode_segmentation}
 use Rattle.unicode_width.proofs.Computing.{unicode_width}
 use Rattle.bx_common.specs.declared.base.Base.TheVariants.{Auto}
 use Rattle.bx_keys.specs.declared.key.Key.{Key}
-use Rattle.bx_keys.specs.declared.key.Key.TheVariants.{Insert, NewLine, Erase, Forward, TextEnd, Back, Mark, UndoRun, GoTo, Name, Tell}
+use Rattle.bx_keys.specs.declared.key.Key.TheVariants.{Insert, NewLine, Erase, Forward, TextEnd, Back, Mark, Undo, GoTo, Name, Tell}
 use Rattle.bx_levels.specs.resolve.Laws.{level_at}
 use Rattle.bx_rows.specs.RowPicture.{letter_glyphs}
 use Rattle.bx_text.specs.Changes.{IsRange}
@@ -50,7 +50,7 @@ abbrev between : Editor
 between = after (start (codes "ab") 4 40) (Forward ∷ [])
 
 pub a_code_is_taken_back : AnswerIsARun
-    → let e = after between (Name ∷ (letters (codes "u5d0") ++ Insert 0xA ∷ UndoRun ∷ [])) in (e.content.text ≡ codes "ab") × (e.place ≡ 1)
+    → let e = after between (Name ∷ (letters (codes "u5d0") ++ Insert 0xA ∷ Undo ∷ [])) in (e.content.text ≡ codes "ab") × (e.place ≡ 1)
 unfolding unicode_segmentation unicode_width digits
 a_code_is_taken_back law =
     let back = law tables between (typed (letters (codes "u5d0"))) (Insert 0xA) refl
@@ -76,7 +76,9 @@ b_marked = after (start (codes "abc") 4 40) (Forward ∷ Mark ∷ Forward ∷ []
 pub b_is_isolated : LetterWraps
     → (after b_marked (Name ∷ Insert 0x69 ∷ [])).content.text ≡ codes "a" ++ 0xE2 ∷ 0x81 ∷ 0xA6 ∷ 0x62 ∷ 0xE2 ∷ 0x81 ∷ 0xA9 ∷ codes "c"
 unfolding unicode_segmentation unicode_width digits
-b_is_isolated law = ((law tables b_marked 0x69 0x2066 0x2069 (record { settled = refl; undecided = (λ over. cc over); writes = refl }) refl refl (record { some = omega arith; inside = omega arith })).fits refl (omega arith)).text_is
+b_is_isolated law =
+    ((law tables b_marked 0x69 0x2066 0x2069 (record { settled = refl; undecided = (λ over. cc over); writes = refl }) refl refl
+    (record { some = omega arith; inside = omega arith })).fits refl (omega arith)).text_is
 
 -- in its paragraph
 pub b_stands_in_an_isolate : LetterIsolates

@@ -6,7 +6,6 @@ use Rattle.std.specs.List.{list_all}
 use Rattle.std.specs.Str.Parse.{digits_value}
 use Rattle.std.proofs.lemmas.Bool.{and_parts, eqb-true, or_cases}
 use Rattle.std.proofs.lemmas.Bool.Decides.{nat_tests}
-use Rattle.std.proofs.lemmas.Str.{chars-IsAscii, encode_ascii}
 use Rattle.bx_common.specs.Characters.{largest_text}
 use Rattle.bx_common.specs.declared.base.Base.{Base}
 use Rattle.bx_editor.specs.declared.questions.answers.Prompt.TheVariants.{Off, Code}
@@ -30,7 +29,7 @@ use Rattle.bx_editor.proofs.InSearch.{any-key}
 use Rattle.bx_editor_laws.proofs.AskingKeys.{asked_name, name-is}
 use Rattle.bx_editor_laws.proofs.LettersPut.{character-in, is-itself}
 use Rattle.bx_editor_laws.proofs.LineEnd.{typed-at-end}
-use Rattle.bx_editor_laws.proofs.QuestionKeys.{asked-key}
+use Rattle.bx_editor_laws.proofs.QuestionAnswers.{asked-key}
 
 -- ---- the digits
 
@@ -151,8 +150,10 @@ put-in-for d first e new bytes content place base width h = record {
   prompt_is = h.prompt_is;
 }
 
-ended : (d : Data) (first e : Editor) (code : List ℕ) (c : ℕ) (key : Key) → after_key d None e key ≡ as_left key (after_taking d e.typing 0xA (cleared e) (after_answer_letter d None e.prompt (cleared e) 0xA))
-    → IsCoding first e code → coded code ≡ Some c → length first.content.text + length (encode_utf8 c) ≤ largest_text → IsPutIn d first (encode_utf8 c) (after_key d None e key)
+ended : (d : Data) (first e : Editor) (code : List ℕ) (c : ℕ) (key : Key)
+    → after_key d None e key ≡ as_left key (after_taking d e.typing 0xA (cleared e) (after_answer_letter d None e.prompt (cleared e) 0xA))
+    → IsCoding first e code → coded code ≡ Some c → length first.content.text + length (encode_utf8 c) ≤ largest_text
+    → IsPutIn d first (encode_utf8 c) (after_key d None e key)
 ended d first e code c key is h read few =
     let free = without_prompt (cleared e) in
     let bytes = encode_utf8 c in

@@ -4,7 +4,7 @@ use Rattle.std.specs.Prelude.{codes, Option, None}
 use Rattle.std.specs.Fmt.{digits}
 use Rattle.unicode_segmentation.proofs.Computing.{unicode_segmentation}
 use Rattle.unicode_width.proofs.Computing.{unicode_width}
-use Rattle.bx_keys.specs.declared.key.Key.TheVariants.{Insert, Erase, Delete, Forward, Down, RowEnd, Save, Quit, Undo, Redo, Direction, Size, Find, Notice}
+use Rattle.bx_keys.specs.declared.key.Key.TheVariants.{Insert, Erase, Delete, Forward, Down, RowEnd, Save, Quit, UndoEdit, RedoEdit, Direction, Size, Find, Notice}
 use Rattle.bx_keys.specs.declared.notice.Notice.TheVariants as notices
 use Rattle.bx_store.specs.declared.cause.SaveCause.{SaveCause}
 use Rattle.bx_store.specs.declared.cause.SaveCause.TheVariants.{NoSpace}
@@ -44,12 +44,12 @@ pub erase_takes_a_cluster : text_and_place (after (start (codes "e") 2 10) (RowE
 unfolding unicode_segmentation unicode_width digits
 erase_takes_a_cluster = refl
 
-pub undo_gives_the_cluster_back : text_and_place (after (start (codes "e") 2 10) (RowEnd ∷ Insert acute ∷ Erase ∷ Undo ∷ []))
+pub undo_gives_the_cluster_back : text_and_place (after (start (codes "e") 2 10) (RowEnd ∷ Insert acute ∷ Erase ∷ UndoEdit ∷ []))
     ≡ (0x65 ∷ 0xcc ∷ 0x81 ∷ [], 3)
 unfolding unicode_segmentation unicode_width digits
 undo_gives_the_cluster_back = refl
 
-pub redo_takes_it_again : text_and_place (after (start (codes "e") 2 10) (RowEnd ∷ Insert acute ∷ Erase ∷ Undo ∷ Redo ∷ [])) ≡ ([], 0)
+pub redo_takes_it_again : text_and_place (after (start (codes "e") 2 10) (RowEnd ∷ Insert acute ∷ Erase ∷ UndoEdit ∷ RedoEdit ∷ [])) ≡ ([], 0)
 unfolding unicode_segmentation unicode_width digits
 redo_takes_it_again = refl
 
@@ -78,16 +78,16 @@ pub erase_at_the_start_does_nothing : (after (start (codes "ab") 2 10) (Erase �
 unfolding unicode_segmentation unicode_width digits
 erase_at_the_start_does_nothing = refl
 
-pub an_edit_empties_the_future : after (start (codes "ab") 2 30) (letters (codes "x") ++ (Undo ∷ Insert 0x79 ∷ Redo ∷ []))
-    ≡ record (after (start (codes "ab") 2 30) (letters (codes "x") ++ (Undo ∷ Insert 0x79 ∷ []))) { typing = Off; message = Some NothingToRedo }
+pub an_edit_empties_the_future : after (start (codes "ab") 2 30) (letters (codes "x") ++ (UndoEdit ∷ Insert 0x79 ∷ RedoEdit ∷ []))
+    ≡ record (after (start (codes "ab") 2 30) (letters (codes "x") ++ (UndoEdit ∷ Insert 0x79 ∷ []))) { typing = Off; message = Some NothingToRedo }
 unfolding unicode_segmentation unicode_width digits
 an_edit_empties_the_future = refl
 
-pub a_saved_text_that_is_undone_is_changed : (after (start [] 2 10) (letters (codes "x") ++ (Save ∷ Undo ∷ []))).changed ≡ true
+pub a_saved_text_that_is_undone_is_changed : (after (start [] 2 10) (letters (codes "x") ++ (Save ∷ UndoEdit ∷ []))).changed ≡ true
 unfolding unicode_segmentation unicode_width digits
 a_saved_text_that_is_undone_is_changed = refl
 
-pub nothing_to_undo : (after (start (codes "ab") 2 30) (Undo ∷ [])).message ≡ Some NothingToUndo
+pub nothing_to_undo : (after (start (codes "ab") 2 30) (UndoEdit ∷ [])).message ≡ Some NothingToUndo
 unfolding unicode_segmentation unicode_width digits
 nothing_to_undo = refl
 
@@ -117,7 +117,7 @@ a_notice_between_two_quits_does_not_count = refl
 -- ---- notices
 
 pub a_notice_is_the_message : (shown (after (start (codes "ab") 2 32) (Insert 0x78 ∷ Notice notices.NoSpace ∷ [])) 0).columns
-    ≡ ascii_columns (codes "xab                             " ++ codes "* 1:2 no copy is kept: no space ")
+    ≡ ascii_columns (codes "xab                             " ++ codes "* 1:2 no crash copy: no space   ")
 unfolding unicode_segmentation unicode_width digits
 a_notice_is_the_message = refl
 

@@ -24,7 +24,8 @@ use Rattle.bx_editor.specs.Before.{Before, before}
 use Rattle.bx_editor.specs.Erasing.{after_removing, or_selection, removed_on}
 use Rattle.bx_editor.specs.Keys.{after_key, as_left, effect_of, refuses_replacing}
 use Rattle.bx_editor.specs.Functions.{is_told_key}
-use Rattle.bx_editor.specs.Putting.{after_character, after_new_line, as_line, has_room, line_end, new_indent, put_in, put_line, puts_line, spaces_on, typed, units_in_line, with_selection_replaced, yielding}
+use Rattle.bx_editor.specs.Putting.{after_character, after_new_line, as_line, has_room, line_end, new_indent, put_in, put_line, puts_line}
+use Rattle.bx_editor.specs.Putting.{spaces_on, typed, units_in_line, with_selection_replaced, yielding}
 use Rattle.bx_editor.specs.Region.{is_empty, region, is_selection, is_soft}
 use Rattle.bx_editor_laws.specs.SelectionLaws.{bytes_put, is_removal, rest, rest_with, seam, HasSelection, IsRefused, IsReplacedBy, IsRest}
 use Rattle.bx_editor_laws.specs.SelectionLaws.{SelectionComesBack, SelectionGivesWay, SelectionIsRemoved}
@@ -174,7 +175,10 @@ put-yields d e key typing new on has = record {
   goes = λ few.
       let begun = replacement-begins d e (cleared e) new (refl, (refl, refl)) in
       subst (λ (p : Editor). let now = as_left key (record p { typing = typing }) in IsOneRun e now × DoesWork now)
-      (sym (put-fits d (cleared e) new on (still e has) few)) (record { more = begun.more; over = begun.over; start = begun.start }, record { settled = has.no_paste; other = asks-none e has; writes = has.writes });
+      (sym (put-fits d (cleared e) new on (still e has) few)) (
+        record { more = begun.more; over = begun.over; start = begun.start },
+        record { settled = has.no_paste; other = asks-none e has; writes = has.writes },
+      );
   full = λ many.
       subst (λ (p : Editor). IsRefused e (as_left key (record p { typing = typing }))) (sym (put-full d (cleared e) new on (still e has) many))
       (record { content_is = refl; place_is = refl; mark_is = refl; message_is = refl });

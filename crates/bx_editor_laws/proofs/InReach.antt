@@ -1,531 +1,169 @@
 -- Whatever is typed behind the stored text, or stepped over, that text stays in reach of undo and redo.
 use Rattle.std.proofs.lemmas.Bool.{not-true}
-use Rattle.std.proofs.lemmas.Bool.Decides.{nat_tests}
 use Rattle.bx_keys.specs.declared.key.Key.{Key}
 use Rattle.bx_store.specs.declared.store.StoreFault.{StoreFault}
-use Rattle.bx_text.specs.declared.change.Change.{Change}
 use Rattle.bx_text.specs.index.Paragraphs.{is_separator}
-use Rattle.bx_document.specs.declared.history.HistoryStep.{HistoryStep}
-use Rattle.bx_document.specs.declared.history.HistoryStep.TheVariants as steps
 use Rattle.bx_ucd.specs.Data.{Data}
-use Rattle.bx_view.specs.declared.moves.Vertical.{Vertical}
-use Rattle.bx_view.specs.Moves.{row_home}
 use Rattle.bx_editor.specs.declared.answer.Answer.{Answer}
 use Rattle.bx_editor.specs.declared.input_line.Erasure.{Erasure}
 use Rattle.bx_editor.specs.declared.questions.answers.Prompt.{Prompt}
 use Rattle.bx_editor.specs.declared.questions.answers.Prompt.TheVariants as prompts
 use Rattle.bx_editor.specs.declared.questions.line.Target.{Target}
-use Rattle.bx_editor.specs.declared.search_state.SearchPurpose.TheVariants as purposes
 use Rattle.bx_editor.specs.declared.message.Message.TheVariants as messages
 use Rattle.bx_editor.specs.declared.search_state.SearchState.{SearchState}
 use Rattle.bx_editor.specs.declared.undo_groups.typing.Typing.{Typing}
 use Rattle.bx_editor.specs.declared.undo_groups.typing.Typing.TheVariants as typings
-use Rattle.bx_editor.specs.Answering.{answer_of}
 use Rattle.bx_editor.specs.Asking.{after_answer_letter, after_code, after_erasing_answer, after_going, after_name_key, after_name_letter, after_named}
 use Rattle.bx_editor.specs.Asking.{after_wrapping, answer_lengthened, answer_line, asking, gone_to, is_code_prompt, is_of_last, longest_code, longest_line}
 use Rattle.bx_editor.specs.Asking.{spans_lines, with_answer, with_character, with_wrap, without_prompt}
 use Rattle.bx_editor.specs.Before.{Before}
-use Rattle.bx_document.specs.History.{next_changes}
 use Rattle.bx_editor.specs.InputLines.{after_taking, ends_line, erases_nothing, is_no_letter, line_shortened}
 use Rattle.bx_editor.specs.Keys.{after_pressing, answered, answered_match, answered_name, answered_overwrite}
-use Rattle.bx_editor.specs.Keys.{answered_question, answered_replacement, changes_text, effect_of, is_save}
+use Rattle.bx_editor.specs.Keys.{answered_question, answered_replacement, is_save}
 use Rattle.bx_editor.specs.LinePuts.{after_line_put, typed_in}
-use Rattle.bx_editor.specs.RowMoves.{after_wheel, carried, shows_place, wheel_top}
-use Rattle.bx_editor.specs.Saving.{after_naming, after_save, asking_name, can_save, confirms, is_changed}
-use Rattle.bx_editor.specs.Saving.{is_nameless, longest_name, takes_name, with_answered_name, without_answer}
-use Rattle.bx_editor.specs.Search.{after_beginning, next_or_start, search_back, search_from, sought, sought_alone, without_search}
+use Rattle.bx_editor.specs.Saving.{after_naming, can_save, confirms}
+use Rattle.bx_editor.specs.Saving.{is_nameless, longest_name}
+use Rattle.bx_editor.specs.Search.{without_search}
 use Rattle.bx_editor.specs.questions.Answers.{asked, is_line_letter}
 use Rattle.bx_editor.specs.questions.KeyLetters.{code_letter, name_letter}
 use Rattle.bx_editor.specs.questions.Names.{asks_code, closing, coded, is_code_letter, named}
 use Rattle.bx_editor_laws.proofs.LineKept.{in-line-keeps}
-use Rattle.std.proofs.Common.{◌≡◌, ℕ, ◌+◌, ◌≤◌, Bool, true, false, List, [], ◌∷◌, ◌++◌, length, replicate, refl, sym, ap, subst, ◌∙◌, arith, if◌then◌else◌}
-use Rattle.std.specs.Prelude.{◌&&◌, ◌||◌, ◌==◌, not, min, nat_le, nat_lt, chars, encode_utf8, Option, Some, None, is_none}
-use Rattle.bx_keys.specs.declared.key.Key.TheVariants.{Insert, Erase, Delete, Cut, Put, Replace, EraseWord, DeleteWord, ErasePoint, NewLine, Save}
-use Rattle.bx_text.specs.Edits.{Edit, fits, fits_both}
+use Rattle.std.proofs.Common.{◌≡◌, ℕ, Bool, true, false, length, refl, sym, subst, ◌∙◌, if◌then◌else◌}
+use Rattle.std.specs.Prelude.{◌&&◌, ◌||◌, ◌==◌, not, chars, encode_utf8, Option, Some, None, is_none}
+use Rattle.bx_text.specs.Edits.{fits, fits_both}
 use Rattle.bx_document.specs.Swapped.{behind_character}
-use Rattle.bx_editor.specs.undo_groups.Groups.{after_insertion, after_removal, goes_on, goes_on_removing, kind_of}
-use Rattle.bx_editor.specs.declared.undo_groups.typing.Kind.{Kind}
-use Rattle.bx_editor.specs.declared.undo_groups.typing.Kind.TheVariants as kinds
-use Rattle.bx_editor.specs.declared.undo_groups.typing.Removal.{Removal}
-use Rattle.bx_editor.specs.declared.message.Message.{Message}
-use Rattle.bx_editor.specs.declared.cursor.Soft.{Soft}
-use Rattle.bx_editor.specs.declared.cursor.Soft.TheVariants as softness
-use Rattle.bx_editor.specs.declared.clicks.Extent.{Extent}
-use Rattle.bx_editor.specs.declared.clicks.Extent.TheVariants as extents
-use Rattle.bx_editor.specs.declared.clicks.Pressed.{Pressed}
+use Rattle.bx_editor.specs.undo_groups.Groups.{after_insertion, kind_of}
 use Rattle.bx_editor.specs.declared.answer.Answer.TheVariants.{Letter, Erases, Moves, PutsIn, Passes, GoesBack, Next, Previous, Replaces, Scrolls, Stays, Ends}
-use Rattle.bx_editor.specs.Editor.{Editor, after_redo, after_step, after_undo, by_group, group_length, rows, stored_behind, text_height}
-use Rattle.bx_editor.specs.Editor.{with_exchange, with_insertion, with_removal, with_typing}
-use Rattle.bx_editor.specs.Effects.{Effect, Types, BeginsLine, Puts, Removes, RemovesWord, Steps, StepsGroup, Goes, GoesByRows, GoesToRowEnd, Clicks, Drags}
-use Rattle.bx_editor.specs.Effects.{Wheels, Marks, Selects, SelectsAll, Unmarks, Copies, Cuts, Seeks, SeeksNext, SeeksPrevious, Saves, Quits, Turns, Helps}
-use Rattle.bx_editor.specs.Effects.{AsksLine, AsksName, AsksFile, AsksOverwrite, Tells, Refuses, Rests, by}
-use Rattle.bx_editor.specs.Erasing.{after_erasing, after_erasing_word, after_removing, removed_on}
+use Rattle.bx_editor.specs.Editor.{Editor}
+use Rattle.bx_editor.specs.Editor.{with_insertion, with_typing}
 use Rattle.bx_editor.specs.Keys.{is_typed as is_typed_letter}
-use Rattle.bx_editor.specs.Pointing.{after_drag, after_point, dragged_to, part_at, pointed_place, press_extent, pressed_at, pressing_with, rests_on_unit}
-use Rattle.bx_editor.specs.Pointing.{selecting_part, with_word}
-use Rattle.bx_editor.specs.Putting.{after_character, after_put, after_tab, as_line, has_room, is_paste, new_indent, new_line_end, paste_ended, put_in, put_line}
-use Rattle.bx_editor.specs.Putting.{puts_line, spaces_on, typed, units_in_line, with_line_put, with_selection_replaced, without_paste, yielding}
-use Rattle.bx_editor.specs.Region.{after_copy, after_cut, bytes_in, held_message, is_at_mark, is_empty, is_selection, is_soft, line, region, selecting, taken}
-use Rattle.bx_editor.specs.Region.{unselected, with_held, without_hard_mark, without_mark}
-use Rattle.bx_editor.specs.Replacing.{at_match, next_match}
+use Rattle.bx_editor.specs.Putting.{is_paste, paste_ended}
+use Rattle.bx_editor.specs.Putting.{without_paste}
+use Rattle.bx_editor.specs.Region.{is_empty, region}
+use Rattle.bx_editor.specs.Replacing.{next_match}
 use Rattle.bx_editor.proofs.Searches.{IsKeptSeeking, is_end, is_end_of_match, match-keeps, replacement-keeps, query-keeps, typed-in-search}
 use Rattle.bx_editor_laws.specs.StoredLaws.{may_edit}
 use Rattle.bx_editor_laws.proofs.PasteEnded.{ended-by}
-
--- ---- kinds of keys
-
--- an effect that may edit, and an answer that may
-abbrev edits : Effect → Bool
-edits (Types c) = true
-edits BeginsLine = true
-edits Puts = true
-edits (Removes how start stop) = true
-edits (RemovesWord start stop) = true
-edits Cuts = true
-edits _ = false
-
-abbrev pub is_typed : Answer → Bool
-is_typed (Letter c) = true
-is_typed (Erases how) = true
-is_typed PutsIn = true
-is_typed Replaces = true
-is_typed _ = false
-
-abbrev is_saves : Effect → Bool
-is_saves Saves = true
-is_saves _ = false
-
-pub edit-key : (d : Data) (e : Editor) (key : Key) → edits (effect_of d e key) ≡ true → may_edit key ≡ true
-edit-key d e (Insert c) is = refl
-edit-key d e NewLine is = refl
-edit-key d e Erase is = refl
-edit-key d e ErasePoint is = refl
-edit-key d e Delete is = refl
-edit-key d e EraseWord is = refl
-edit-key d e DeleteWord is = refl
-edit-key d e Cut is = refl
-edit-key d e Put is = refl
-edit-key d e _ is = absurd (cc is)
-
-pub typed-key : (key : Key) → is_typed (answer_of key) ≡ true → may_edit key ≡ true
-typed-key (Insert c) is = refl
-typed-key NewLine is = refl
-typed-key Erase is = refl
-typed-key ErasePoint is = refl
-typed-key Delete is = refl
-typed-key EraseWord is = refl
-typed-key DeleteWord is = refl
-typed-key Put is = refl
-typed-key Replace is = refl
-typed-key _ is = absurd (cc is)
-
-saves-key : (d : Data) (e : Editor) (key : Key) → is_saves (effect_of d e key) ≡ is_save key
-saves-key d e Save = refl
-saves-key d e _ = refl
-
-either : (P : Editor → Type 0) (b : Bool) (p q : Editor) → P p → P q → P (if b then p else q)
-either P true p q h k = h
-either P false p q h k = k
+use Rattle.bx_editor_laws.proofs.ReachEffects.{InPast, InReach, at-match, deciding, either, exchange, insertion, is_typed, naming, pressed, replacing, wheel}
+use Rattle.bx_editor_laws.proofs.ReachEffects.{wheel-past, wrapping}
 
 module _ (n : ℕ) (d : Data) where
-  -- the stored text is in reach, and `InPast` behind the text or at it
-  abbrev pub InReach : Editor → Type 0
-  InReach e = e.stored ≡ Some n
-
-  abbrev pub InPast : Editor → Type 0
-  InPast e = InReach e × (n ≤ length e.content.past)
-
-  -- ---- edits behind it
-
-  kept-behind : (m : ℕ) (stored : Option ℕ) → stored ≡ Some n → n ≤ m → stored_behind m stored ≡ Some n
-  kept-behind m stored is few =
-      let no : nat_lt m n ≡ false = grind (arith, nat_tests, few) in ap (stored_behind m) is ∙ ap (λ b. if b then None else Some n) no
-
-  insertion : (e : Editor) (new : List ℕ) (on : Bool) → InPast e → InPast (with_insertion d e new on)
-  insertion e new on h = (kept-behind (length e.content.past) e.stored h.0 h.1, omega (arith, h.1))
-
-  lined : (e : Editor) (new : List ℕ) → InPast e → InPast (with_line_put d e new)
-  lined e new h = (kept-behind (length e.content.past) e.stored h.0 h.1, omega (arith, h.1))
-
-  removal : (e : Editor) (start stop : ℕ) (on : Bool) → InPast e → InPast (with_removal d e start stop on)
-  removal e start stop on h = (kept-behind (length e.content.past) e.stored h.0 h.1, omega (arith, h.1))
-
-  wrapping : (e : Editor) (opener closer : List ℕ) → InPast e → InPast (with_wrap d e opener closer)
-  wrapping e opener closer h = (kept-behind (length e.content.past) e.stored h.0 h.1, omega (arith, h.1))
-
-  replacing : (e : Editor) (new : List ℕ) → InPast e → InPast (with_selection_replaced d e new)
-  replacing e new h =
-      let without = with_removal d e (region e).0 (region e).1 false in
-      insertion without new true (removal e (region e).0 (region e).1 false h)
-
-  putting : (e : Editor) (new : List ℕ) (on : Bool) → InPast e → InPast (put_in d e new on)
-  putting e new on h =
-      let two = with_selection_replaced d e new in
-      let one = with_insertion d e new on in
-      either InPast (has_room e new) (if is_selection e then two else one) (record e { message = Some messages.TextFull })
-      (either InPast (is_selection e) two one (replacing e new h) (insertion e new on h)) h
-
-  typing-in : (typing : Typing) (e : Editor) (new : List ℕ) (kind : Kind) → InPast e → InPast (typed d typing e new kind)
-  typing-in typing e new kind h = putting e new (goes_on typing kind) h
-
-  tab : (typing : Typing) (e : Editor) → InPast e → InPast (after_tab d typing e)
-  tab typing e h =
-      let spaces = replicate (spaces_on e.tab_width (units_in_line d e (yielding e).0)) 0x20 in
-      either InPast (e.tab_width == 0) (typed d typing e (encode_utf8 0x9) (kind_of (d.class 0x9))) (typed d typing e spaces kinds.Blank)
-      (typing-in typing e (encode_utf8 0x9) (kind_of (d.class 0x9)) h) (typing-in typing e spaces kinds.Blank h)
-
-  character : (typing : Typing) (e : Editor) (c : ℕ) → InPast e → InPast (after_character d typing e c)
-  character typing e c h =
-      either InPast (c == 0x9) (after_tab d typing e) (typed d typing e (encode_utf8 c) (kind_of (d.class c))) (tab typing e h)
-      (typing-in typing e (encode_utf8 c) (kind_of (d.class c)) h)
-
-  line-over : (e : Editor) (new : List ℕ) → InPast e → InPast (put_line d e new)
-  line-over e new h =
-      either InPast (fits e.content.text (line d e).0 (line d e).0 new) (with_line_put d e new) (record e { message = Some messages.TextFull })
-      (lined e new h) h
-
-  put : (e : Editor) → InPast e → InPast (after_put d e)
-  put e h =
-      let over = put_line d e (as_line d e e.held) in
-      let here = put_in d e e.held false in
-      either InPast (length e.held == 0) (record e { message = Some messages.NothingToPut }) (if puts_line e then over else here) h
-      (either InPast (puts_line e) over here (line-over e (as_line d e e.held) h) (putting e e.held false h))
-
-  instead : (e other : Editor) → InPast e → InPast other
-      → InPast (if is_selection e then with_removal d e (region e).0 (region e).1 false else other)
-  instead e other h k =
-      either InPast (is_selection e) (with_removal d e (region e).0 (region e).1 false) other
-      (removal e (region e).0 (region e).1 false h) k
-
-  erasing : (typing : Typing) (how : Removal) (e : Editor) (start stop : ℕ) → InPast e → InPast (after_erasing d typing how e start stop)
-  erasing typing how e start stop h =
-      let on = goes_on_removing typing how in
-      instead e (removed_on d typing how e start stop) h
-      (either InPast (start == stop) e (record (with_removal d e start stop on) { typing = after_removal how }) h
-      (removal e start stop on h))
-
-  erasing-word : (e : Editor) (start stop : ℕ) → InPast e → InPast (after_erasing_word d e start stop)
-  erasing-word e start stop h =
-      instead e (after_removing d e start stop false) h
-      (either InPast (start == stop) e (with_removal d e start stop false) h (removal e start stop false h))
-
-  exchange : (e : Editor) (start stop : ℕ) (new : List ℕ) → InPast e → InPast (with_exchange d e start stop new)
-  exchange e start stop [] h = removal e start stop false h
-  exchange e start stop (b ∷ bs) h = (kept-behind (length e.content.past) e.stored h.0 h.1, omega (arith, h.1))
-
-  -- what leaves text, history and what was stored leaves each of the two
-  copying : (P : Editor → Type 0) (e : Editor) → ((x : Editor) (message : Option Message) (held : List ℕ) (whole : Bool) → P x
-      → P (record x { message = message; held = held; whole_line = whole })) → P e → P (without_mark e) → P (after_copy d e)
-  copying P e told h unmarked =
-      let soft = without_hard_mark e in
-      let k : P soft = either P (is_soft e.soft) e (without_mark e) h unmarked in
-      let nothing : Editor = record soft { message = Some messages.NothingToCopy } in
-      let line_held = with_held e (bytes_in e (line d e)) true messages.LineCopied in
-      let region_held = with_held e (bytes_in e (region e)) false messages.Copied in
-      either P (is_empty (region e)) (if is_empty (line d e) then nothing else line_held) region_held
-      (either P (is_empty (line d e)) nothing line_held (told soft (Some messages.NothingToCopy) soft.held soft.whole_line k)
-      (told soft (held_message e.clipboard (bytes_in e (line d e)) (Some messages.LineCopied)) (bytes_in e (line d e)) true k))
-      (told soft (held_message e.clipboard (bytes_in e (region e)) (Some messages.Copied)) (bytes_in e (region e)) false k)
-
-  cut : (e : Editor) → InPast e → InPast (after_cut d e)
-  cut e h =
-      let part = taken d e in
-      let held = bytes_in e part in
-      let without = with_removal d e part.0 part.1 false in
-      let gone = record without { held = held; whole_line = is_empty (region e); message = held_message e.clipboard held (Some messages.Cut) } in
-      either InPast (is_empty part) (after_copy d e) gone (copying InPast e (λ x message text whole k. k) h h) (removal e part.0 part.1 false h)
-
-  -- ---- keys that edit nothing
-
-  undo : (e : Editor) (past : List Edit) → InReach e → InReach (after_undo e past)
-  undo e [] h = h
-  undo e (edit ∷ past) h = h
-
-  redo : (e : Editor) (future : List Edit) → InReach e → InReach (after_redo e future)
-  redo e [] h = h
-  redo e (edit ∷ future) h = h
-
-  step : (way : HistoryStep) (e : Editor) → InReach e → InReach (after_step way e)
-  step steps.Undo e h = undo e e.content.past h
-  step steps.Redo e h = redo e e.content.future h
-
-  run-by : (way : HistoryStep) (e : Editor) (change : Option Change) → InReach e → InReach (by_group way e change)
-  run-by way e None h = h
-  run-by way e (Some change) h = h
-
-  select : (e : Editor) (mark : Option ℕ) (soft : Soft) → InReach e → InReach (selecting e mark soft)
-  select e None soft h = h
-  select e (Some mark) softness.Off h = h
-  select e (Some mark) softness.Fresh h = h
-  select e (Some mark) softness.Old h = h
-
-  -- ---- clicks, drags and the wheel
-
-  word : (e : Editor) (part : ℕ × ℕ) → InReach e → InReach (with_word e part)
-  word e part h =
-      either InReach (is_empty part) (record e { mark = None; soft = softness.Off; place = part.0 }) (selecting_part e part.0 part.1) h h
-
-  first : (e : Editor) (row column place : ℕ) (soft : Soft) → InReach e → InReach (pressing_with d e row column place soft)
-  first e row column place softness.Fresh h = h
-  first e row column place softness.Off h = h
-  first e row column place softness.Old h = h
-
-  press-at : (e : Editor) (row column place : ℕ) (extent : Extent) → InReach e → InReach (pressed_at d e row column place extent)
-  press-at e row column place extents.Unit h = first e row column place e.soft h
-  press-at e row column place extents.Word h = word e (part_at d e extents.Word place) h
-  press-at e row column place extents.Paragraph h = h
-
-  point : (e : Editor) (row column : ℕ) → InReach e → InReach (after_point d e row column)
-  point e row column h =
-      let place = pointed_place d e row column in
-      let extent = press_extent e.clicks row column in
-      either InReach (nat_le row (text_height e.height)) (pressed_at d e row column place extent)
-      (record (unselected e) { clicks = None; pressed = None }) (press-at e row column place extent h) h
-
-  drag-to : (e : Editor) (pressed : Pressed) (part : ℕ × ℕ) → InReach e → InReach (dragged_to e pressed part)
-  drag-to e pressed part h =
-      let on = selecting_part e pressed.start part.1 in
-      let back = selecting_part e pressed.stop part.0 in
-      either InReach (rests_on_unit e pressed part) e (if nat_le pressed.start part.0 then on else back) h
-      (either InReach (nat_le pressed.start part.0) on back h h)
-
-  drag : (e : Editor) (row column : ℕ) (pressed : Option Pressed) → InReach e → InReach (after_drag d e row column pressed)
-  drag e row column None h = point e row column h
-  drag e row column (Some pressed) h =
-      let place = pointed_place d e (min row (text_height e.height + 1)) column in drag-to e pressed (part_at d e pressed.extent place) h
-
-  wheel : (was : Before) (e : Editor) (way : Vertical) → InReach e → InReach (after_wheel d was e way)
-  wheel was e way h =
-      let top = wheel_top d e way in
-      let still : Editor = record e { message = was.message } in
-      either InReach (shows_place d e top) (if top == row_home (rows d e) e.top then still else e) (carried d e top)
-      (either InReach (top == row_home (rows d e) e.top) still e h h) h
-
-  wheel-past : (was : Before) (e : Editor) (way : Vertical) → InPast e → InPast (after_wheel d was e way)
-  wheel-past was e way h =
-      let top = wheel_top d e way in
-      let still : Editor = record e { message = was.message } in
-      either InPast (shows_place d e top) (if top == row_home (rows d e) e.top then still else e) (carried d e top)
-      (either InPast (top == row_home (rows d e) e.top) still e h h) h
-
-  -- ---- saves that store nothing
-
-  save : (e : Editor) (fault : Option StoreFault) → is_none fault ≡ false → InReach e → InReach (after_save e fault)
-  save e None fails h = absurd (cc fails)
-  save e (Some fault) fails h = either InReach (is_changed fault.cause) (record e { prompt = prompts.Overwrite }) e h h
-
-  saved : (e : Editor) (fault : Option StoreFault) (nameless : Bool) → (not nameless && is_none fault) ≡ false → InReach e
-      → InReach (if nameless then asking_name e else after_save e fault)
-  saved e fault true fails h = h
-  saved e fault false fails h = save e fault fails h
-
-  refused-save : (fault : Option StoreFault) (was : Before) (e : Editor) (reads : Bool) → (not (reads || is_nameless e) && is_none fault) ≡ false
-      → InReach e → InReach (by d fault was e (if reads then Refuses else Saves))
-  refused-save fault was e true fails h = h
-  refused-save fault was e false fails h = saved e fault (is_nameless e) fails h
-
-  named-save : (e : Editor) (fault : Option StoreFault) (takes : Bool) → is_none fault ≡ false → InReach e
-      → InReach (after_save (if takes then with_answered_name e else without_answer e) fault)
-  named-save e fault true fails h = save (with_answered_name e) fault fails h
-  named-save e fault false fails h = save (without_answer e) fault fails h
-
-  naming : (e : Editor) (fault : Option StoreFault) (empty : Bool) → (not empty && is_none fault) ≡ false → InReach e
-      → InReach (if empty then e else after_save (if takes_name e fault then with_answered_name e else without_answer e) fault)
-  naming e fault true fails h = h
-  naming e fault false fails h = named-save e fault (takes_name e fault) fails h
-
-  deciding : (e : Editor) (fault : Option StoreFault) (typing : Typing) (pasted confirmed reads nameless : Bool)
-      → ((confirmed && not pasted && not (reads || nameless)) && is_none fault) ≡ false → InReach e
-      → let x = without_prompt e in
-      InReach (
-      if pasted
-      then with_typing e typing
-      else (if confirmed then (if reads then record x { message = Some messages.ViewOnly } else (if nameless then asking_name x else after_save x fault)) else x)
-      )
-  deciding e fault typing true confirmed reads nameless fails h = h
-  deciding e fault typing false false reads nameless fails h = h
-  deciding e fault typing false true true nameless fails h = h
-  deciding e fault typing false true false true fails h = h
-  deciding e fault typing false true false false fails h = save (without_prompt e) fault fails h
-
-  at-match : (e : Editor) (at : Option ℕ) → InReach e → InReach (at_match d e at)
-  at-match e None h = h
-  at-match e (Some at) h = h
-
-  -- ---- each effect
-
-  module _ (fault : Option StoreFault) (was : Before) where
-    effect : (e : Editor) (one : Effect) → InReach e → (edits one ≡ true → InPast e) → is_saves one ≡ false → InReach (by d fault was e one)
-    effect e (Types c) h p quiet = (character was.typing e c (p refl)).0
-    effect e BeginsLine h p quiet = (typing-in was.typing e (new_line_end d e ++ new_indent d e) kinds.Separator (p refl)).0
-    effect e Puts h p quiet = (put e (p refl)).0
-    effect e (Removes how start stop) h p quiet = (erasing was.typing how e start stop (p refl)).0
-    effect e (RemovesWord start stop) h p quiet = (erasing-word e start stop (p refl)).0
-    effect e (Steps way) h p quiet = step way e h
-    effect e (StepsGroup way) h p quiet = run-by way e (next_changes way (group_length way e) e.content) h
-    effect e (Goes place) h p quiet = h
-    effect e (GoesToRowEnd place) h p quiet = h
-    effect e (GoesByRows way count) h p quiet = h
-    effect e (Clicks row column) h p quiet = point e row column h
-    effect e (Drags row column) h p quiet = drag e row column e.pressed h
-    effect e (Wheels way) h p quiet = wheel was e way h
-    effect e Marks h p quiet =
-        either InReach (is_at_mark e.mark e.place) (record (without_mark e) { message = Some messages.MarkOff })
-        (record e { mark = Some e.place; soft = softness.Off; message = Some messages.MarkSet }) h h
-    effect e Selects h p quiet = select e e.mark e.soft h
-    effect e SelectsAll h p quiet = h
-    effect e Unmarks h p quiet = h
-    effect e Copies h p quiet = copying InReach e (λ x message text whole k. k) h h
-    effect e Cuts h p quiet = (cut e (p refl)).0
-    effect e (Seeks purpose) h p quiet = h
-    effect e SeeksNext h p quiet =
-        let free = unselected e in
-        either InReach (length (sought d free) == 0) (after_beginning purposes.Find free) (search_from d (next_or_start d free) (sought_alone free)) h h
-    effect e SeeksPrevious h p quiet =
-        let free = unselected e in
-        either InReach (length (sought d free) == 0) (after_beginning purposes.Find free) (search_back d (sought_alone free)) h h
-    effect e Saves h p quiet = absurd (cc quiet)
-    effect e Quits h p quiet =
-        either InReach (not e.changed || was.again) (record e { quit_before = true; ended = true })
-        (record e { quit_before = true; message = Some messages.Unsaved }) h h
-    effect e Turns h p quiet = h
-    effect e Helps h p quiet = h
-    effect e AsksLine h p quiet = h
-    effect e AsksName h p quiet = h
-    effect e AsksFile h p quiet = h
-    effect e AsksOverwrite h p quiet = h
-    effect e Tells h p quiet = h
-    effect e Refuses h p quiet = h
-    effect e Rests h p quiet = h
-
-    allowed : (e : Editor) (refuses : Bool) (one : Effect) → InReach e → (edits one ≡ true → InPast e) → is_saves one ≡ false
-        → InReach (by d fault was e (if refuses then Refuses else one))
-    allowed e true one h p quiet = h
-    allowed e false one h p quiet = effect e one h p quiet
-
-    -- a key that stores nothing
-    pub pressed : (e : Editor) (key : Key) → InReach e → (may_edit key ≡ true → InPast e) → ((is_save key && can_save e) && is_none fault) ≡ false
-        → InReach (after_pressing d fault was e key)
-    pressed e Save h p fails = refused-save fault was e e.read_only fails h
-    pressed e key h p fails =
-        allowed e (changes_text key && e.read_only) (effect_of d e key) h (λ is. p (edit-key d e key is)) (saves-key d e key)
-
   -- ---- in a search and in a question
 
-  seeking : IsKeptSeeking d InPast
+  seeking : IsKeptSeeking d (InPast n d)
   seeking = record {
-    exchanged = λ e start stop new h. exchange e start stop new h;
+    exchanged = λ e start stop new h. exchange n d e start stop new h;
     told = λ e message h. h;
     placed = λ e place h. h;
     typed = λ e typing h. h;
     sought = λ e search_state purpose origin query other at count cursor h. h;
   }
 
-  with-one : (e : Editor) (c : ℕ) → InPast e → InPast (with_character d e c)
+  with-one : (e : Editor) (c : ℕ) → InPast n d e → InPast n d (with_character d e c)
   with-one e c h =
-      either InPast (fits e.content.text e.place e.place (encode_utf8 c))
+      either (InPast n d) (fits e.content.text e.place e.place (encode_utf8 c))
       (with_typing (with_insertion d e (encode_utf8 c) false) (after_insertion (kind_of (d.class c))))
-      (record e { message = Some messages.TextFull }) (insertion e (encode_utf8 c) false h) h
+      (record e { message = Some messages.TextFull }) (insertion n d e (encode_utf8 c) false h) h
 
-  coding : (e : Editor) (code : Option ℕ) → InPast e → InPast (after_code d e code)
+  coding : (e : Editor) (code : Option ℕ) → InPast n d e → InPast n d (after_code d e code)
   coding e None h = h
   coding e (Some c) h = with-one e c h
 
-  going : (e : Editor) (target : Option Target) → InPast e → InPast (gone_to d e target)
+  going : (e : Editor) (target : Option Target) → InPast n d e → InPast n d (gone_to d e target)
   going e None h = h
   going e (Some target) h = h
 
-  other : (b : Bool) (p q : Editor) → b ≡ false → InPast q → InPast (if b then p else q)
-  other b p q quiet k = subst (λ t. InPast (if t then p else q)) (sym quiet) k
+  other : (b : Bool) (p q : Editor) → b ≡ false → InPast n d q → InPast n d (if b then p else q)
+  other b p q quiet k = subst (λ t. InPast n d (if t then p else q)) (sym quiet) k
 
   -- each but a line end of a name
-  letter : (fault : Option StoreFault) (prompt : Prompt) (e : Editor) (c : ℕ) → (prompt ≡ prompts.File → (c == 0xA) ≡ false) → InPast e
-      → InPast (after_answer_letter d fault prompt e c)
+  letter : (fault : Option StoreFault) (prompt : Prompt) (e : Editor) (c : ℕ) → (prompt ≡ prompts.File → (c == 0xA) ≡ false) → InPast n d e
+      → InPast n d (after_answer_letter d fault prompt e c)
   letter fault prompts.Line e c inside h =
-      either InPast (c == 0xA) (after_going d e) (if is_line_letter c then answer_lengthened d longest_line e c else e)
-      (going (without_prompt e) (asked (chars e.answer)) h) (either InPast (is_line_letter c) (answer_lengthened d longest_line e c) e h h)
+      either (InPast n d) (c == 0xA) (after_going d e) (if is_line_letter c then answer_lengthened d longest_line e c else e)
+      (going (without_prompt e) (asked (chars e.answer)) h) (either (InPast n d) (is_line_letter c) (answer_lengthened d longest_line e c) e h h)
   letter fault prompts.Code e c inside h =
       let digit = code_letter c in
       let more = answer_lengthened d longest_code e digit in
-      either InPast (digit == 0xA) (after_code d (without_prompt e) (coded e.answer)) (if is_code_letter digit then more else e)
-      (coding (without_prompt e) (coded e.answer) h) (either InPast (is_code_letter digit) more e h h)
+      either (InPast n d) (digit == 0xA) (after_code d (without_prompt e) (coded e.answer)) (if is_code_letter digit then more else e)
+      (coding (without_prompt e) (coded e.answer) h) (either (InPast n d) (is_code_letter digit) more e h h)
   letter fault prompts.File e c inside h =
       let more = answer_lengthened d longest_name e c in
       other (c == 0xA) (after_naming fault (without_prompt e)) (if is_no_letter d c then e else more) (inside refl)
-      (either InPast (is_no_letter d c) e more h h)
+      (either (InPast n d) (is_no_letter d c) e more h h)
   letter fault prompts.Off e c inside h = h
   letter fault prompts.Name e c inside h = h
   letter fault prompts.Overwrite e c inside h = h
 
-  line-letter : (prompt : Prompt) (search_state : SearchState) (e : Editor) (c : ℕ) → (c == 0xA) ≡ false → InPast e
-      → InPast (typed_in d prompt search_state e c)
-  line-letter prompts.Off search_state e c inside h = typed-in-search d InPast seeking search_state e c h
+  line-letter : (prompt : Prompt) (search_state : SearchState) (e : Editor) (c : ℕ) → (c == 0xA) ≡ false → InPast n d e
+      → InPast n d (typed_in d prompt search_state e c)
+  line-letter prompts.Off search_state e c inside h = typed-in-search d (InPast n d) seeking search_state e c h
   line-letter prompts.Line search_state e c inside h = letter None prompts.Line e c (λ file. inside) h
   line-letter prompts.Name search_state e c inside h = h
   line-letter prompts.Code search_state e c inside h = letter None prompts.Code e c (λ file. inside) h
   line-letter prompts.File search_state e c inside h = letter None prompts.File e c (λ file. inside) h
   line-letter prompts.Overwrite search_state e c inside h = h
 
-  line-put : (e : Editor) → InPast e → InPast (after_line_put d e)
+  line-put : (e : Editor) → InPast n d e → InPast n d (after_line_put d e)
   line-put e h =
-      in-line-keeps d InPast (record {
+      in-line-keeps d (InPast n d) (record {
         cleared = λ x k. k;
         told = λ x k. k;
         typed = λ x c inside k. line-letter x.prompt x.search_state x c (not-true (c == 0xA) inside) k;
       }) e h
 
-  wrapping-one : (e : Editor) (opener closer : ℕ) → InPast e → InPast (after_wrapping d e opener closer)
+  wrapping-one : (e : Editor) (opener closer : ℕ) → InPast n d e → InPast n d (after_wrapping d e opener closer)
   wrapping-one e opener closer h =
       let full : Editor = record e { message = Some messages.TextFull } in
       let one = with_wrap d e (encode_utf8 opener) (encode_utf8 closer) in
       let room = fits_both e.content.text (encode_utf8 opener) (encode_utf8 closer) in
-      either InPast (spans_lines d e) (record e { message = Some messages.MoreThanOneLine }) (if room then one else full) h
-      (either InPast room one full (wrapping e (encode_utf8 opener) (encode_utf8 closer) h) h)
+      either (InPast n d) (spans_lines d e) (record e { message = Some messages.MoreThanOneLine }) (if room then one else full) h
+      (either (InPast n d) room one full (wrapping n d e (encode_utf8 opener) (encode_utf8 closer) h) h)
 
-  named-one : (e : Editor) (c : ℕ) (closer : Option ℕ) → InPast e → InPast (after_named d e c closer)
+  named-one : (e : Editor) (c : ℕ) (closer : Option ℕ) → InPast n d e → InPast n d (after_named d e c closer)
   named-one e c None h = with-one e c h
   named-one e c (Some closer) h =
-      either InPast (is_empty (region e)) (with_character d e c) (after_wrapping d e c closer) (with-one e c h) (wrapping-one e c closer h)
+      either (InPast n d) (is_empty (region e)) (with_character d e c) (after_wrapping d e c closer) (with-one e c h) (wrapping-one e c closer h)
 
-  name-letter : (e : Editor) (l : ℕ) (name : Option ℕ) → InPast e → InPast (after_name_letter d e l name)
+  name-letter : (e : Editor) (l : ℕ) (name : Option ℕ) → InPast n d e → InPast n d (after_name_letter d e l name)
   name-letter e l (Some c) h = named-one (without_prompt e) c (closing l) h
   name-letter e l None h =
-      either InPast (asks_code l) (asking e prompts.Code) (if l == 0xA then without_prompt e else e) h
-      (either InPast (l == 0xA) (without_prompt e) e h h)
+      either (InPast n d) (asks_code l) (asking e prompts.Code) (if l == 0xA then without_prompt e else e) h
+      (either (InPast n d) (l == 0xA) (without_prompt e) e h h)
 
-  taking : (typing : Typing) (c : ℕ) (e new : Editor) → InPast e → InPast new → InPast (after_taking d typing c e new)
+  taking : (typing : Typing) (c : ℕ) (e new : Editor) → InPast n d e → InPast n d new → InPast n d (after_taking d typing c e new)
   taking typings.Off c e new h k = k
   taking typings.Word c e new h k = k
   taking typings.Blanks c e new h k = k
   taking typings.Erasing c e new h k = k
   taking typings.Deleting c e new h k = k
-  taking typings.Paste c e new h k = either InPast (not (ends_line d c)) new e k h
+  taking typings.Paste c e new h k = either (InPast n d) (not (ends_line d c)) new e k h
   taking typings.Spent c e new h k = h
 
-  erased : (e : Editor) (how : Erasure) → InPast e → InPast (after_erasing_answer d e.prompt e how)
+  erased : (e : Editor) (how : Erasure) → InPast n d e → InPast n d (after_erasing_answer d e.prompt e how)
   erased e how h =
       let l = answer_line e in
       let shorter = with_answer e (line_shortened d how l) in
-      either InPast (is_code_prompt e.prompt && is_of_last how && (length e.answer == 0)) (record e { prompt = prompts.Name })
-      (if erases_nothing d how l then e else shorter) h (either InPast (erases_nothing d how l) e shorter h h)
+      either (InPast n d) (is_code_prompt e.prompt && is_of_last how && (length e.answer == 0)) (record e { prompt = prompts.Name })
+      (if erases_nothing d how l then e else shorter) h (either (InPast n d) (erases_nothing d how l) e shorter h h)
 
   -- what of a name is typed
-  module _ (fault : Option StoreFault) (e : Editor) (c : ℕ) (h : InReach e) where
+  module _ (fault : Option StoreFault) (e : Editor) (c : ℕ) (h : (InReach n d) e) where
     abbrev file_letter : Bool → Editor
     file_letter end =
         if end then after_naming fault (without_prompt e) else (if is_no_letter d c then e else answer_lengthened d longest_name e c)
 
-    typed-file : (end : Bool) → ((end && true && not (length e.answer == 0)) && is_none fault) ≡ false → InReach (file_letter end)
-    typed-file true fails = naming (without_prompt e) fault (length e.answer == 0) fails h
-    typed-file false fails = either InReach (is_no_letter d c) e (answer_lengthened d longest_name e c) h h
+    typed-file : (end : Bool) → ((end && true && not (length e.answer == 0)) && is_none fault) ≡ false → InReach n d (file_letter end)
+    typed-file true fails = naming n d (without_prompt e) fault (length e.answer == 0) fails h
+    typed-file false fails = either (InReach n d) (is_no_letter d c) e (answer_lengthened d longest_name e c) h h
 
-    pasted-file : (end separator : Bool) (typing : Typing) → InReach (with_typing (if not (end || separator) then file_letter end else e) typing)
+    pasted-file : (end separator : Bool) (typing : Typing) → InReach n d (with_typing (if not (end || separator) then file_letter end else e) typing)
     pasted-file true separator typing = h
     pasted-file false true typing = h
-    pasted-file false false typing = either InReach (is_no_letter d c) e (answer_lengthened d longest_name e c) h h
+    pasted-file false false typing = either (InReach n d) (is_no_letter d c) e (answer_lengthened d longest_name e c) h h
 
     file : (typing : Typing) → (((c == 0xA) && is_typed_letter typing && not (length e.answer == 0)) && is_none fault) ≡ false
-        → InReach (after_taking d typing c e (file_letter (c == 0xA)))
+        → InReach n d (after_taking d typing c e (file_letter (c == 0xA)))
     file typings.Off fails = typed-file (c == 0xA) fails
     file typings.Word fails = typed-file (c == 0xA) fails
     file typings.Blanks fails = typed-file (c == 0xA) fails
@@ -534,92 +172,92 @@ module _ (n : ℕ) (d : Data) where
     file typings.Paste fails = pasted-file (c == 0xA) (is_separator (d.class c)) (if ends_line d c then typings.Spent else typings.Paste)
     file typings.Spent fails = h
 
-  module _ (fault : Option StoreFault) (was : Before) (e : Editor) (key : Key) (h : InReach e) (p : may_edit key ≡ true → InPast e) where
+  module _ (fault : Option StoreFault) (was : Before) (e : Editor) (key : Key) (h : (InReach n d) e) (p : may_edit key ≡ true → InPast n d e) where
     abbrev Fails : Type 0
     Fails = ((is_save key && can_save e) && is_none fault) ≡ false
 
-    query-past : (one : Answer) → InPast e → (is_end one ≡ true → InPast (after_pressing d fault was (without_search e) key))
-        → InPast (answered d fault was e key one)
-    query-past one k ends = query-keeps d InPast seeking fault was e key one k ends (λ way. wheel-past was e way k) (line-put e k)
+    query-past : (one : Answer) → InPast n d e → (is_end one ≡ true → InPast n d (after_pressing d fault was (without_search e) key))
+        → InPast n d (answered d fault was e key one)
+    query-past one k ends = query-keeps d (InPast n d) seeking fault was e key one k ends (λ way. wheel-past n d was e way k) (line-put e k)
 
-    replacement-past : (one : Answer) → InPast e → (is_end one ≡ true → InPast (after_pressing d fault was (without_search e) key))
-        → InPast (answered_replacement d fault was e key one)
-    replacement-past one k ends = replacement-keeps d InPast seeking fault was e key one k k ends (λ way. wheel-past was e way k) (line-put e k)
+    replacement-past : (one : Answer) → InPast n d e → (is_end one ≡ true → InPast n d (after_pressing d fault was (without_search e) key))
+        → InPast n d (answered_replacement d fault was e key one)
+    replacement-past one k ends = replacement-keeps d (InPast n d) seeking fault was e key one k k ends (λ way. wheel-past n d was e way k) (line-put e k)
 
-    match-past : (one : Answer) → InPast e → (is_end_of_match one ≡ true → InPast (after_pressing d fault was (without_search e) key))
-        → InPast (answered_match d fault was e key one)
-    match-past one k ends = match-keeps d InPast seeking fault was e key one k k ends (λ way. wheel-past was e way k)
+    match-past : (one : Answer) → InPast n d e → (is_end_of_match one ≡ true → InPast n d (after_pressing d fault was (without_search e) key))
+        → InPast n d (answered_match d fault was e key one)
+    match-past one k ends = match-keeps d (InPast n d) seeking fault was e key one k k ends (λ way. wheel-past n d was e way k)
 
-    pub query : (one : Answer) → (is_typed one ≡ true → InPast e) → Fails → InReach (answered d fault was e key one)
+    pub query : (one : Answer) → (is_typed one ≡ true → InPast n d e) → Fails → InReach n d (answered d fault was e key one)
     query (Letter c) q fails = (query-past (Letter c) (q refl) (λ ends. absurd (cc ends))).0
     query (Erases how) q fails = (query-past (Erases how) (q refl) (λ ends. absurd (cc ends))).0
     query PutsIn q fails = (line-put e (q refl)).0
     query Replaces q fails = (query-past Replaces (q refl) (λ ends. absurd (cc ends))).0
-    query (Scrolls way) q fails = wheel was e way h
-    query Ends q fails = pressed fault was (without_search e) key h p fails
+    query (Scrolls way) q fails = wheel n d was e way h
+    query Ends q fails = pressed n d fault was (without_search e) key h p fails
     query _ q fails = h
 
-    pub replacement : (one : Answer) → (is_typed one ≡ true → InPast e) → Fails → InReach (answered_replacement d fault was e key one)
+    pub replacement : (one : Answer) → (is_typed one ≡ true → InPast n d e) → Fails → InReach n d (answered_replacement d fault was e key one)
     replacement (Letter c) q fails = (replacement-past (Letter c) (q refl) (λ ends. absurd (cc ends))).0
     replacement (Erases how) q fails = (replacement-past (Erases how) (q refl) (λ ends. absurd (cc ends))).0
     replacement PutsIn q fails = (line-put e (q refl)).0
     replacement Replaces q fails = (replacement-past Replaces (q refl) (λ ends. absurd (cc ends))).0
-    replacement (Scrolls way) q fails = wheel was e way h
-    replacement Ends q fails = pressed fault was (without_search e) key h p fails
+    replacement (Scrolls way) q fails = wheel n d was e way h
+    replacement Ends q fails = pressed n d fault was (without_search e) key h p fails
     replacement _ q fails = h
 
-    pub shown : (one : Answer) → (is_typed one ≡ true → InPast e) → Fails → InReach (answered_match d fault was e key one)
+    pub shown : (one : Answer) → (is_typed one ≡ true → InPast n d e) → Fails → InReach n d (answered_match d fault was e key one)
     shown (Letter c) q fails = (match-past (Letter c) (q refl) (λ ends. absurd (cc ends))).0
     shown (Erases how) q fails = h
     shown GoesBack q fails = h
-    shown Next q fails = at-match e (next_match d e (behind_character e.content.text e.at)) h
+    shown Next q fails = at-match n d e (next_match d e (behind_character e.content.text e.at)) h
     shown Previous q fails = h
     shown Replaces q fails = (match-past Replaces (q refl) (λ ends. absurd (cc ends))).0
-    shown (Scrolls way) q fails = wheel was e way h
+    shown (Scrolls way) q fails = wheel n d was e way h
     shown Stays q fails = h
-    shown _ q fails = pressed fault was (without_search e) key h p fails
+    shown _ q fails = pressed n d fault was (without_search e) key h p fails
 
-    pub question : (one : Answer) → (is_typed one ≡ true → InPast e) → ((c : ℕ) → one ≡ Letter c → ⊥) → Fails
-        → InReach (answered_question d fault was e key one)
+    pub question : (one : Answer) → (is_typed one ≡ true → InPast n d e) → ((c : ℕ) → one ≡ Letter c → ⊥) → Fails
+        → InReach n d (answered_question d fault was e key one)
     question (Letter c) q no-letter fails = absurd (no-letter c refl)
     question (Erases how) q no-letter fails = (erased e how (q refl)).0
     question (Moves m) q no-letter fails = h
     question PutsIn q no-letter fails = (line-put e (q refl)).0
     question Passes q no-letter fails = h
     question GoesBack q no-letter fails = h
-    question (Scrolls way) q no-letter fails = wheel was e way h
+    question (Scrolls way) q no-letter fails = wheel n d was e way h
     question Stays q no-letter fails = h
-    question _ q no-letter fails = pressed fault was (without_prompt e) key h p fails
+    question _ q no-letter fails = pressed n d fault was (without_prompt e) key h p fails
 
-    pub question-letter : (prompt : Prompt) (c : ℕ) → e.prompt ≡ prompt → (prompt ≡ prompts.File → ⊥) → InPast e
-        → InReach (answered_question d fault was e key (Letter c))
+    pub question-letter : (prompt : Prompt) (c : ℕ) → e.prompt ≡ prompt → (prompt ≡ prompts.File → ⊥) → InPast n d e
+        → InReach n d (answered_question d fault was e key (Letter c))
     question-letter prompt c is no-name k =
         (taking was.typing c e (after_answer_letter d fault e.prompt e c) k
         (letter fault e.prompt e c (λ file. absurd (no-name (sym is ∙ file))) k)).0
 
     pub file-letter : (c : ℕ) → e.prompt ≡ prompts.File
         → (((c == 0xA) && is_typed_letter was.typing && not (length e.answer == 0)) && is_none fault) ≡ false
-        → InReach (answered_question d fault was e key (Letter c))
+        → InReach n d (answered_question d fault was e key (Letter c))
     file-letter c is fails =
-        subst (λ prompt. InReach (after_taking d was.typing c e (after_answer_letter d fault prompt e c))) (sym is) (file fault e c h was.typing fails)
+        subst (λ prompt. InReach n d (after_taking d was.typing c e (after_answer_letter d fault prompt e c))) (sym is) (file fault e c h was.typing fails)
 
-    pub name : (one : Answer) → (is_typed one ≡ true → InPast e) → Fails → InReach (answered_name d fault was e key one)
+    pub name : (one : Answer) → (is_typed one ≡ true → InPast n d e) → Fails → InReach n d (answered_name d fault was e key one)
     name (Letter c) q fails =
-        either InReach (is_paste was.typing) (with_typing e was.typing) (after_name_key d e c) h
+        either (InReach n d) (is_paste was.typing) (with_typing e was.typing) (after_name_key d e c) h
         (name-letter e (name_letter c) (named (name_letter c)) (q refl)).0
     name (Erases how) q fails = h
     name GoesBack q fails = h
-    name (Scrolls way) q fails = wheel was e way h
+    name (Scrolls way) q fails = wheel n d was e way h
     name Stays q fails = h
-    name _ q fails = pressed fault was (without_prompt e) key h p fails
+    name _ q fails = pressed n d fault was (without_prompt e) key h p fails
 
     pub overwriting : (c : ℕ) → ((confirms c && not (is_paste was.typing) && can_save e) && is_none fault) ≡ false
-        → InReach (answered_overwrite fault was e (Letter c))
-    overwriting c fails = deciding e fault was.typing (is_paste was.typing) (confirms c) e.read_only (is_nameless e) fails h
+        → InReach n d (answered_overwrite fault was e (Letter c))
+    overwriting c fails = deciding n d e fault was.typing (is_paste was.typing) (confirms c) e.read_only (is_nameless e) fails h
 
   -- ---- a paste
 
-  pub ended : (e : Editor) → InPast e → InPast (paste_ended d e)
+  pub ended : (e : Editor) → InPast n d e → InPast n d (paste_ended d e)
   ended e h =
       let left = without_paste e in
-      ended-by d e InPast h h (λ list. replacing left list h) (λ list. insertion left list false h) h
+      ended-by d e (InPast n d) h h (λ list. replacing n d left list h) (λ list. insertion n d left list false h) h

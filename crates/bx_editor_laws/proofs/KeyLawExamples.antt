@@ -9,8 +9,8 @@ use Rattle.unicode_width.proofs.Computing.{unicode_width}
 use Rattle.bx_common.specs.Characters.{largest_text}
 use Rattle.bx_common.specs.declared.base.Base.TheVariants.{Auto}
 use Rattle.bx_keys.specs.declared.key.Key.{Key}
-use Rattle.bx_keys.specs.declared.key.Key.TheVariants.{Cancel, DeleteWord, EraseWord, Forward, GoTo, Mark, NewLine, RedoRun, Save, Select}
-use Rattle.bx_keys.specs.declared.key.Key.TheVariants.{TextEnd, UndoRun}
+use Rattle.bx_keys.specs.declared.key.Key.TheVariants.{Cancel, DeleteWord, EraseWord, Forward, GoTo, Mark, NewLine, Redo, Save, Select}
+use Rattle.bx_keys.specs.declared.key.Key.TheVariants.{TextEnd, Undo}
 use Rattle.bx_store.specs.declared.store.StoreFault.{StoreFault}
 use Rattle.bx_view.specs.declared.moves.Logical.TheVariants as ways
 use Rattle.bx_view.specs.Laws.{IsGreatestBefore, IsLeastBehind}
@@ -85,7 +85,7 @@ the_first_word_and_its_blank_are_erased law =
     let erased = (law.behind tables at_the_start plain_at_the_start).word more in
     erased.2.text_is ∙ ap (λ n. drop n two_words) (next_stop erased.0 erased.1)
 
-pub an_erased_word_comes_back : WordKeysErase → (after at_the_end (EraseWord ∷ UndoRun ∷ [])).content.text ≡ two_words
+pub an_erased_word_comes_back : WordKeysErase → (after at_the_end (EraseWord ∷ Undo ∷ [])).content.text ≡ two_words
 unfolding unicode_segmentation unicode_width digits
 an_erased_word_comes_back law =
     let some : 0 < 5 = omega arith in
@@ -155,7 +155,7 @@ saved_ab = after behind_ab (Save ∷ [])
 
 -- the blank is an undo group, and cd another
 abbrev one_run_undone : List Key
-one_run_undone = letters (codes " cd") ++ UndoRun ∷ []
+one_run_undone = letters (codes " cd") ++ Undo ∷ []
 
 letters_in_reach : StaysInReach tables 2 saved_ab (typed (letters (codes " cd")))
 unfolding unicode_segmentation unicode_width digits
@@ -174,7 +174,7 @@ one_run_in_reach =
     let five : 2 ≤ 5 = omega arith in
     (inl two, (refl, (inl three, (refl, (inl four, (refl, (inl five, (refl, tt))))))))
 
-pub undone_to_the_saved_text_it_is_unchanged : StoredIsUnchanged → (after behind_ab (Save ∷ one_run_undone ++ UndoRun ∷ [])).changed ≡ false
+pub undone_to_the_saved_text_it_is_unchanged : StoredIsUnchanged → (after behind_ab (Save ∷ one_run_undone ++ Undo ∷ [])).changed ≡ false
 unfolding unicode_segmentation unicode_width digits
 undone_to_the_saved_text_it_is_unchanged law =
     ((law.saved tables behind_ab Save (typed one_run_undone) refl one_run_in_reach refl (λ over. cc over) refl).0.stored
@@ -186,14 +186,14 @@ before_that_it_is_changed law =
     ((law.saved tables behind_ab Save (typed (letters (codes " cd"))) refl letters_in_reach refl (λ over. cc over) refl).0.other
     (λ none. let five : 5 ≡ 0 = ap length none in cc five)) (λ is. let apart : 3 ≡ 2 = is in cc apart)
 
-undone_in_reach : StaysInReach tables 2 saved_ab (typed (UndoRun ∷ []))
+undone_in_reach : StaysInReach tables 2 saved_ab (typed (Undo ∷ []))
 unfolding unicode_segmentation unicode_width digits
 undone_in_reach = let two : 2 ≤ 2 = omega arith in (inl two, (refl, tt))
 
-pub redone_to_the_saved_text_it_is_unchanged : StoredIsUnchanged → (after behind_ab (Save ∷ UndoRun ∷ RedoRun ∷ [])).changed ≡ false
+pub redone_to_the_saved_text_it_is_unchanged : StoredIsUnchanged → (after behind_ab (Save ∷ Undo ∷ Redo ∷ [])).changed ≡ false
 unfolding unicode_segmentation unicode_width digits
 redone_to_the_saved_text_it_is_unchanged law =
-    ((law.saved tables behind_ab Save (typed (UndoRun ∷ [])) refl undone_in_reach refl (λ over. cc over) refl).1.stored
+    ((law.saved tables behind_ab Save (typed (Undo ∷ [])) refl undone_in_reach refl (λ over. cc over) refl).1.stored
     (λ none. let two : 2 ≡ 0 = ap length none in cc two)) refl
 
 typed_in_reach : StaysInReach tables 0 (start (codes "ab") 5 40) (typed (letters (codes "xy")))
@@ -204,7 +204,7 @@ typed_in_reach =
     (inl none, (refl, (inl one, (refl, tt))))
 
 pub undone_to_the_opened_text_it_is_unchanged : StoredIsUnchanged
-    → (after (start (codes "ab") 5 40) (letters (codes "xy") ++ UndoRun ∷ [])).changed ≡ false
+    → (after (start (codes "ab") 5 40) (letters (codes "xy") ++ Undo ∷ [])).changed ≡ false
 unfolding unicode_segmentation unicode_width digits
 undone_to_the_opened_text_it_is_unchanged law =
     ((law.opened tables (codes "ab") 5 40 Auto (typed (letters (codes "xy"))) typed_in_reach refl (λ over. cc over) refl).0.stored

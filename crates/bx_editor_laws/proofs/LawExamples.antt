@@ -8,7 +8,7 @@ use Rattle.unicode_normalization.proofs.Computing.{unicode_normalization}
 use Rattle.unicode_segmentation.proofs.Computing.{unicode_segmentation}
 use Rattle.unicode_width.proofs.Computing.{unicode_width}
 use Rattle.bx_common.specs.declared.base.Base.TheVariants.{Auto}
-use Rattle.bx_keys.specs.declared.key.Key.TheVariants.{Insert, Erase, Delete, Down, Forward, Find, FindBack, Mark, Save, TextEnd, Undo, Redo}
+use Rattle.bx_keys.specs.declared.key.Key.TheVariants.{Insert, Erase, Delete, Down, Forward, Find, FindBack, Mark, Save, TextEnd, UndoEdit, RedoEdit}
 use Rattle.bx_text.specs.Edits.{Edit, Edited, edit_of}
 use Rattle.bx_find.specs.Nearest.{MatchesAt}
 use Rattle.bx_find.specs.declared.letters.Reading.TheVariants.{Wide}
@@ -29,13 +29,13 @@ the_top_stays law = law tables at_the_third 0 (record { text = (codes "1\n2\n3",
 
 -- an insertion and a removal with a save between them
 pub two_undos_give_the_text : UndoGivesBack
-    → (after (start (codes "xy") 2 10) (Insert 0x61 ∷ Save ∷ Delete ∷ Undo ∷ Undo ∷ [])).content.text ≡ codes "xy"
+    → (after (start (codes "xy") 2 10) (Insert 0x61 ∷ Save ∷ Delete ∷ UndoEdit ∷ UndoEdit ∷ [])).content.text ≡ codes "xy"
 unfolding unicode_segmentation unicode_width digits
 two_undos_give_the_text law = (law tables (codes "xy") 2 10 Auto ((Insert 0x61, None) ∷ (Save, None) ∷ (Delete, None) ∷ []) refl (λ over. cc over)).text_is
 
 -- the cursor is where it was before the insertion, at 1, and no mark is set
 pub two_undos_give_the_place : UndoGivesBack
-    → let e = after (start (codes "xy") 2 10) (Forward ∷ Insert 0x61 ∷ TextEnd ∷ Mark ∷ Erase ∷ Undo ∷ Undo ∷ []) in (e.place ≡ 1) × (e.mark ≡ None)
+    → let e = after (start (codes "xy") 2 10) (Forward ∷ Insert 0x61 ∷ TextEnd ∷ Mark ∷ Erase ∷ UndoEdit ∷ UndoEdit ∷ []) in (e.place ≡ 1) × (e.mark ≡ None)
 unfolding unicode_segmentation unicode_width digits
 two_undos_give_the_place law =
     let back = law tables (codes "xy") 2 10 Auto ((Forward, None) ∷ (Insert 0x61, None) ∷ (TextEnd, None) ∷ (Mark, None) ∷ (Erase, None) ∷ []) refl (λ over. cc over) in
@@ -48,36 +48,36 @@ unfolding unicode_segmentation unicode_width digits
 no_undo_keeps_the_place law =
     let back = law tables (codes "xy") 2 10 Auto ((Forward, None) ∷ (Mark, None) ∷ []) refl (λ over. cc over) in (back.place_is, back.mark_is)
 
-pub redo_gives_the_letter : RedoMirrorsUndo → (after (start (codes "x") 2 10) (Insert 0x61 ∷ Undo ∷ Redo ∷ [])).content.text ≡ codes "ax"
+pub redo_gives_the_letter : RedoMirrorsUndo → (after (start (codes "x") 2 10) (Insert 0x61 ∷ UndoEdit ∷ RedoEdit ∷ [])).content.text ≡ codes "ax"
 unfolding unicode_segmentation unicode_width digits
 redo_gives_the_letter law =
     ap (λ (t : Edited). t.text) ((law tables (codes "x") 2 10 Auto ((Insert 0x61, None) ∷ []) refl (λ over. cc over)).redo (λ none. cc none))
 
-pub undo_takes_it_again : RedoMirrorsUndo → (after (start (codes "x") 2 10) (Insert 0x61 ∷ Undo ∷ Redo ∷ Undo ∷ [])).content.text ≡ codes "x"
+pub undo_takes_it_again : RedoMirrorsUndo → (after (start (codes "x") 2 10) (Insert 0x61 ∷ UndoEdit ∷ RedoEdit ∷ UndoEdit ∷ [])).content.text ≡ codes "x"
 unfolding unicode_segmentation unicode_width digits
 undo_takes_it_again law =
-    ap (λ (t : Edited). t.text) ((law tables (codes "x") 2 10 Auto ((Insert 0x61, None) ∷ (Undo, None) ∷ []) refl (λ over. cc over)).undo
+    ap (λ (t : Edited). t.text) ((law tables (codes "x") 2 10 Auto ((Insert 0x61, None) ∷ (UndoEdit, None) ∷ []) refl (λ over. cc over)).undo
     (λ none. let count : 1 ≡ 0 = ap (λ (edits : List Edit). length edits) none in cc count))
 
--- Undo and Redo lead behind the letter, from the text's end and with a mark
+-- UndoEdit and RedoEdit lead behind the letter, from the text's end and with a mark
 abbrev letter_then_end : Editor
 letter_then_end = after (start (codes "xy") 2 10) (Insert 0x61 ∷ TextEnd ∷ Mark ∷ [])
 
 pub redo_leads_behind_the_letter : RedoMirrorsUndo
-    → let e = after letter_then_end (Undo ∷ Redo ∷ []) in (e.place ≡ 1) × (e.mark ≡ None)
+    → let e = after letter_then_end (UndoEdit ∷ RedoEdit ∷ []) in (e.place ≡ 1) × (e.mark ≡ None)
 unfolding unicode_segmentation unicode_width digits
 redo_leads_behind_the_letter law =
     let mirrored = law tables (codes "xy") 2 10 Auto ((Insert 0x61, None) ∷ (TextEnd, None) ∷ (Mark, None) ∷ []) refl (λ over. cc over) in
     let there = mirrored.redo_place (edit_of (codes "xy") 0 0 (codes "a") 0 1) [] refl in
     (there.place_is, there.mark_is)
 
--- Redo and Undo lead before it
+-- RedoEdit and UndoEdit lead before it
 pub undo_leads_before_the_letter : RedoMirrorsUndo
-    → let e = after letter_then_end (Undo ∷ TextEnd ∷ Mark ∷ Redo ∷ Undo ∷ []) in (e.place ≡ 0) × (e.mark ≡ None)
+    → let e = after letter_then_end (UndoEdit ∷ TextEnd ∷ Mark ∷ RedoEdit ∷ UndoEdit ∷ []) in (e.place ≡ 0) × (e.mark ≡ None)
 unfolding unicode_segmentation unicode_width digits
 undo_leads_before_the_letter law =
     let mirrored = law tables (codes "xy") 2 10 Auto
-    ((Insert 0x61, None) ∷ (TextEnd, None) ∷ (Mark, None) ∷ (Undo, None) ∷ (TextEnd, None) ∷ (Mark, None) ∷ []) refl (λ over. cc over) in
+    ((Insert 0x61, None) ∷ (TextEnd, None) ∷ (Mark, None) ∷ (UndoEdit, None) ∷ (TextEnd, None) ∷ (Mark, None) ∷ []) refl (λ over. cc over) in
     let there = mirrored.undo_place (edit_of (codes "xy") 0 0 (codes "a") 0 1) [] refl in
     (there.place_is, there.mark_is)
 

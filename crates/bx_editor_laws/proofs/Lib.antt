@@ -16,6 +16,7 @@ pub mod TakenBack
 pub mod PromptGlyphs
 pub mod PutBack
 pub mod MarkTwice
+pub mod SearchStaysOn
 pub mod GivenUp
 pub mod LawExamples
 pub mod RegionLawExamples
@@ -43,6 +44,7 @@ pub mod IsolateLevels
 pub mod ToldNumbers
 pub mod FewNumbers
 pub mod UnitBytes
+pub mod QuestionAnswers
 pub mod QuestionKeys
 pub mod AskingKeys
 pub mod AnswerRun
@@ -62,6 +64,7 @@ pub mod QuietSearch
 pub mod MatchReplaced
 pub mod ReplacedBack
 pub mod PasteAlone
+pub mod ShownSearches
 pub mod ShownStands
 pub mod ReplaceExamples
 pub mod PointedKeys
@@ -74,6 +77,7 @@ pub mod LineBegun
 pub mod Cancelled
 pub mod MarksTaken
 pub mod ColumnKept
+pub mod ReachEffects
 pub mod InReach
 pub mod ReachKeys
 pub mod StoredNow
@@ -91,4 +95,21 @@ pub mod KeyLetters
 pub mod PromptKept
 pub mod InputLawExamples
 pub mod DragTaken
+pub mod ViewEffects
 pub mod ViewKept
+pub mod ViewTold
+pub mod TopSettled
+pub mod FarShown
+pub mod WheelTurned
+pub mod PagesBack
+pub mod UnwrappedLines
+pub mod TakenLines
+pub mod LineEdits
+pub mod TextEdits
+pub mod LinePutTyped
+pub mod LineAsText
+pub mod LineAbove
+pub mod WholeLine
+pub mod LineCopied
+pub mod LineLawExamples
+pub mod ScrollLawExamples

@@ -1,6 +1,6 @@
 -- What is typed at the end of an input line goes in there, and the cursor stays at the end.
-use Rattle.std.proofs.Common.{◌≡◌, ℕ, ◌+◌, ◌<◌, ◌≤◌, true, nat_lt, List, [], ◌∷◌, ◌++◌, length, take, drop, append-nil, length-append, refl, sym, ap, ap₂, ◌∙◌, arith}
-use Rattle.std.specs.Prelude.{chars, encode_utf8, IsAscii, IsUtf8, if◌then◌else◌}
+use Rattle.std.proofs.Common.{◌≡◌, ℕ, ◌+◌, ◌<◌, ◌≤◌, true, nat_lt, List, [], ◌∷◌, ◌++◌, length, append-nil, length-append, sym, ap, ap₂, ◌∙◌, arith}
+use Rattle.std.specs.Prelude.{encode_utf8, IsAscii, IsUtf8, if◌then◌else◌}
 use Rattle.std.proofs.lemmas.List.{drop_all, take_all}
 use Rattle.std.proofs.lemmas.Str.{chars-IsAscii, encode_ascii, IsUtf8-from_ascii}
 use Rattle.bx_common.specs.declared.base.Base.TheVariants.{Auto}

@@ -13,7 +13,7 @@ use Rattle.bx_editor.proofs.LinePutsLeft.{first-of, others-of}
 -- ---- the characters that are typed
 
 -- a character that ends what an input line takes of a text
-abbrev ends : Data → ℕ → Bool
+abbrev pub ends : Data → ℕ → Bool
 ends d c = (c == 0xA) || is_no_letter d c
 
 free : (b other : Bool) → (b || other) ≡ false → not b ≡ true
@@ -36,7 +36,7 @@ in-line-by d c cs false h rest =
     ap (list_all is_in_line) (before-more (ends d) c cs h)
     ∙ and_from (is_in_line c) (list_all is_in_line (before_first (ends d) cs)) (free (c == 0xA) (is_no_letter d c) h) rest
 
-in-line-before : (d : Data) (cs : List ℕ) → list_all is_in_line (before_first (ends d) cs) ≡ true
+pub in-line-before : (d : Data) (cs : List ℕ) → list_all is_in_line (before_first (ends d) cs) ≡ true
 in-line-before d [] = refl
 in-line-before d (c ∷ cs) = in-line-by d c cs (ends d c) refl (in-line-before d cs)
 

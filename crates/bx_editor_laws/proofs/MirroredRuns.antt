@@ -1,8 +1,8 @@
--- UndoRun then RedoRun, and RedoRun then UndoRun, lead back.
+-- Undo then Redo, and Redo then Undo, lead back.
 use Rattle.std.proofs.Common.{◌≡◌, ℕ, suc, ◌+◌, ◌-◌, ◌≤◌, Bool, false, List, [], ◌∷◌, length, refl, sym, ap, ap₂, subst, ◌∙◌, arith}
 use Rattle.std.specs.Prelude.{Option, Some, None}
 use Rattle.std.specs.Fn.{iterate}
-use Rattle.bx_keys.specs.declared.key.Key.TheVariants.{RedoRun, UndoRun}
+use Rattle.bx_keys.specs.declared.key.Key.TheVariants.{Redo, Undo}
 use Rattle.bx_text.specs.declared.change.Change.{Change}
 use Rattle.bx_text.specs.Edits.{Edit, Edited, inserted, redone_times, splice, undone_times}
 use Rattle.bx_document.specs.History.{next_changes, stepped_times}
@@ -42,14 +42,14 @@ ran-to e new t now place there changed is same at =
 -- an undo group is redone from an editor of any history that has enough edits
 redo-any : (d : Data) (e : Editor) (n : ℕ) (text : List ℕ) (past future : List Edit) → DoesWork e → suc n ≤ length future
     → let t : Edited = version text past future in let now : Editor = record e { content = t } in group_length steps.Redo now ≡ suc n
-    → after_key d None now RedoRun
+    → after_key d None now Redo
     ≡ run_to e (redone_times (suc n) t) ((iterate again (suc n) (t, e.place)).1) (is_changed_at (group_goal steps.Redo now) e.stored)
 redo-any d e n text past [] works few long = absurd (omega (arith, few))
 redo-any d e n text past (edit ∷ future) works few long = redo-run d e n text edit past future works long
 
 undo-any : (d : Data) (e : Editor) (n : ℕ) (text : List ℕ) (past future : List Edit) → DoesWork e → suc n ≤ length past
     → let t : Edited = version text past future in let now : Editor = record e { content = t } in group_length steps.Undo now ≡ suc n
-    → after_key d None now UndoRun
+    → after_key d None now Undo
     ≡ run_to e (undone_times (suc n) t) ((iterate back (suc n) (t, e.place)).1) (is_changed_at (group_goal steps.Undo now) e.stored)
 undo-any d e n text [] future works few long = absurd (omega (arith, few))
 undo-any d e n text (edit ∷ past) future works few long = undo-run d e n text edit past future works long
@@ -69,7 +69,7 @@ undo-lasts numbers p f q n begins to long =
 
 undo-and-redo : (d : Data) (e : Editor) (text : List ℕ) (edit : Edit) (past future : List Edit) → DoesWork e → IsPastOf text (edit ∷ past)
     → EndsAt e.undo_groups (suc (length past) + length future) (suc (length past))
-    → let t : Edited = version text (edit ∷ past) future in IsUnmarked t edit.after.place (after_keys d None (record e { content = t }) (UndoRun ∷ RedoRun ∷ []))
+    → let t : Edited = version text (edit ∷ past) future in IsUnmarked t edit.after.place (after_keys d None (record e { content = t }) (Undo ∷ Redo ∷ []))
 undo-and-redo d e text edit past future works h ends =
     let p = suc (length past) in
     let t : Edited = version text (edit ∷ past) future in
@@ -84,14 +84,14 @@ undo-and-redo d e text edit past future works h ends =
     let from : length undone.past ≡ run_start e.undo_groups p = past-back (suc n) text (edit ∷ past) future ∙ omega (arith, long, start-bound e.undo_groups p) in
     let lasts : group_length steps.Redo first ≡ suc n = redo-lasts e.undo_groups p (length future) (length undone.past) (length undone.future) n ends from long left in
     let second = redo-any d first n undone.text undone.past undone.future (run-works e undone place (is_changed_at (group_goal steps.Undo now) e.stored) works) (omega (arith, left)) lasts in
-    ran-to first (after_keys d None now (UndoRun ∷ RedoRun ∷ [])) t (redone_times (suc n) undone) edit.after.place
+    ran-to first (after_keys d None now (Undo ∷ Redo ∷ [])) t (redone_times (suc n) undone) edit.after.place
     ((iterate again (suc n) (undone, place)).1) (is_changed_at (group_goal steps.Redo first) e.stored)
-    (ap (λ new. after_key d None new RedoRun) (undo-run d e n text edit past future works long) ∙ second)
+    (ap (λ new. after_key d None new Redo) (undo-run d e n text edit past future works long) ∙ second)
     (back-and-again (suc n) text (edit ∷ past) future (omega (arith, few)) h) (again-place n text past future edit place few h)
 
 redo-and-undo : (d : Data) (e : Editor) (text : List ℕ) (edit : Edit) (past future : List Edit) → DoesWork e → IsFutureOf text (edit ∷ future)
     → BeginsAt e.undo_groups (length past + suc (length future)) (length past)
-    → let t : Edited = version text past (edit ∷ future) in IsUnmarked t edit.before.place (after_keys d None (record e { content = t }) (RedoRun ∷ UndoRun ∷ []))
+    → let t : Edited = version text past (edit ∷ future) in IsUnmarked t edit.before.place (after_keys d None (record e { content = t }) (Redo ∷ Undo ∷ []))
 redo-and-undo d e text edit past future works h begins =
     let p = length past in
     let last = p + suc (length future) in
@@ -107,29 +107,29 @@ redo-and-undo d e text edit past future works h begins =
     let to : length redone.past ≡ run_end e.undo_groups p last = size ∙ omega (arith, long) in
     let lasts : group_length steps.Undo first ≡ suc n = undo-lasts e.undo_groups p (suc (length future)) (length redone.past) n begins to long in
     let second = undo-any d first n redone.text redone.past redone.future (run-works e redone place (is_changed_at (group_goal steps.Redo now) e.stored) works) (omega (arith, size)) lasts in
-    ran-to first (after_keys d None now (RedoRun ∷ UndoRun ∷ [])) t (undone_times (suc n) redone) edit.before.place
+    ran-to first (after_keys d None now (Redo ∷ Undo ∷ [])) t (undone_times (suc n) redone) edit.before.place
     ((iterate back (suc n) (redone, place)).1) (is_changed_at (group_goal steps.Undo first) e.stored)
-    (ap (λ new. after_key d None new UndoRun) (redo-run d e n text edit past future works long) ∙ second)
+    (ap (λ new. after_key d None new Undo) (redo-run d e n text edit past future works long) ∙ second)
     (again-and-back (suc n) text past (edit ∷ future) (omega (arith, few)) h) (back-place n text past future edit place few h)
 
 -- ---- whatever the history
 
 redo-mirrors : (d : Data) (e : Editor) (text : List ℕ) (past future : List Edit) → DoesWork e → IsPastOf text past → EndsAt e.undo_groups (length past + length future) (length past)
-    → let t : Edited = version text past future in let new = after_keys d None (record e { content = t }) (UndoRun ∷ RedoRun ∷ []) in
+    → let t : Edited = version text past future in let new = after_keys d None (record e { content = t }) (Undo ∷ Redo ∷ []) in
     (new.content ≡ t) × ((edit : Edit) (rest : List Edit) → past ≡ edit ∷ rest → IsUnmarkedAt edit.after.place new)
 redo-mirrors d e text [] future works h ends = absurd (omega (arith, ends.0))
 redo-mirrors d e text (latest ∷ past) future works h ends =
     let there = undo-and-redo d e text latest past future works h ends in
-    let new = after_keys d None (record e { content = version text (latest ∷ past) future }) (UndoRun ∷ RedoRun ∷ []) in
+    let new = after_keys d None (record e { content = version text (latest ∷ past) future }) (Undo ∷ Redo ∷ []) in
     (there.content_is, λ edit rest is. let same : latest ≡ edit = cc in subst (λ (x : Edit). IsUnmarkedAt x.after.place new) same there.unmarked)
 
 undo-mirrors : (d : Data) (e : Editor) (text : List ℕ) (past future : List Edit) → DoesWork e → IsFutureOf text future → BeginsAt e.undo_groups (length past + length future) (length past)
-    → let t : Edited = version text past future in let new = after_keys d None (record e { content = t }) (RedoRun ∷ UndoRun ∷ []) in
+    → let t : Edited = version text past future in let new = after_keys d None (record e { content = t }) (Redo ∷ Undo ∷ []) in
     (new.content ≡ t) × ((edit : Edit) (rest : List Edit) → future ≡ edit ∷ rest → IsUnmarkedAt edit.before.place new)
 undo-mirrors d e text past [] works h begins = absurd (omega (arith, begins.0))
 undo-mirrors d e text past (next ∷ future) works h begins =
     let there = redo-and-undo d e text next past future works h begins in
-    let new = after_keys d None (record e { content = version text past (next ∷ future) }) (RedoRun ∷ UndoRun ∷ []) in
+    let new = after_keys d None (record e { content = version text past (next ∷ future) }) (Redo ∷ Undo ∷ []) in
     (there.content_is, λ edit rest is. let same : next ≡ edit = cc in subst (λ (x : Edit). IsUnmarkedAt x.before.place new) same there.unmarked)
 
 -- ---- what each key keeps of a history

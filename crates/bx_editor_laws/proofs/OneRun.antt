@@ -1,4 +1,4 @@
--- Characters that go on with each other are one undo group, which one UndoRun takes back.
+-- Characters that go on with each other are one undo group, which one Undo takes back.
 use Rattle.std.proofs.Common.{◌≡◌, ℕ, zero, suc, ◌+◌, ◌-◌, ◌≤◌, ◌<◌, Bool, true, false, List, [], ◌∷◌, ◌++◌, length, map, replicate, take, drop}
 use Rattle.std.proofs.Common.{refl, sym, ap}
 use Rattle.std.proofs.Common.{ap₂, subst, ◌∙◌, arith, inl, inr, if◌then◌else◌, length-append}
@@ -9,7 +9,7 @@ use Rattle.std.proofs.lemmas.Bool.Decides.{nat_tests}
 use Rattle.std.proofs.lemmas.List.{length-drop, length-take}
 use Rattle.std.proofs.lemmas.List.Elements.{All-head, All-tail}
 use Rattle.bx_common.specs.Characters.{largest_text}
-use Rattle.bx_keys.specs.declared.key.Key.TheVariants.{Insert, PasteEnd, UndoRun}
+use Rattle.bx_keys.specs.declared.key.Key.TheVariants.{Insert, PasteEnd, Undo}
 use Rattle.bx_text.specs.Edits.{Edit, Edited, splice}
 use Rattle.bx_document.specs.declared.history.HistoryStep.TheVariants as steps
 use Rattle.bx_editor.specs.undo_groups.Groups.{edited, run_start, after_insertion, goes_on, kind_of}
@@ -71,7 +71,7 @@ IsOneRun first e = Going first e.content e.place e.undo_groups
 
 undo-going : (d : Data) (first e : Editor) (text : List ℕ) (past future : List Edit) → DoesWork e
     → let now : Editor = record e { content = version text past future } in IsOneRun first now
-    → IsBackBefore first (after_key d None now UndoRun)
+    → IsBackBefore first (after_key d None now Undo)
 undo-going d first e text [] future works h = let no = h.over in absurd (cc no)
 undo-going d first e text (edit ∷ past) future works h =
     let t : Edited = version text (edit ∷ past) future in
@@ -88,7 +88,7 @@ undo-going d first e text (edit ∷ past) future works h =
     }
 
 -- from any history
-pub goes-back : (d : Data) (first e : Editor) → DoesWork e → IsOneRun first e → IsBackBefore first (after_key d None e UndoRun)
+pub goes-back : (d : Data) (first e : Editor) → DoesWork e → IsOneRun first e → IsBackBefore first (after_key d None e Undo)
 goes-back d first e works h = undo-going d first e e.content.text e.content.past e.content.future works h
 
 -- ---- an edit
@@ -212,7 +212,7 @@ paste-over d e [] = ended-none d e e.pasted refl
 paste-over d e (c ∷ cs) = paste-over d (after_key d None e (Insert c)) cs
 
 paste-back : (d : Data) (first e : Editor) → DoesWork e → InRun first e → length first.content.past < length e.content.past
-    → IsBackBefore first (after_key d None e UndoRun)
+    → IsBackBefore first (after_key d None e Undo)
 paste-back d first e works (inl h) more = absurd (omega (arith, more, over-length first 0 e.content.text e.place e.content.past h))
 paste-back d first e works (inr h) more = goes-back d first e works h
 
@@ -252,7 +252,7 @@ paste-works d e cs unasked off writes =
     record { settled = paste-over d begun cs; other = λ over. let both = sym left.0 ∙ over in cc both; writes = left.1 }
 
 pub paste-is-a-run : (d : Data) (e : Editor) (cs : List ℕ) → e.prompt ≡ prompts.Off → e.search_state ≡ search_states.Off → e.read_only ≡ false
-    → length e.content.past < length (after_paste d e cs).content.past → IsBackBefore e (after_key d None (after_paste d e cs) UndoRun)
+    → length e.content.past < length (after_paste d e cs).content.past → IsBackBefore e (after_key d None (after_paste d e cs) Undo)
 paste-is-a-run d e cs unasked off writes more =
     let begun = after_paste_start e in
     paste-back d e (after_paste d e cs) (paste-works d e cs unasked off writes)

@@ -9,7 +9,7 @@ use Rattle.unicode_segmentation.proofs.Computing.{unicode_segmentation}
 use Rattle.unicode_width.proofs.Computing.{unicode_width}
 use Rattle.bx_common.specs.declared.base.Base.TheVariants.{Auto}
 use Rattle.bx_keys.specs.declared.key.Key.{Key}
-use Rattle.bx_keys.specs.declared.key.Key.TheVariants.{Cancel, Find, Forward, Insert, PasteEnd, PasteStart, Right, Select, UndoRun}
+use Rattle.bx_keys.specs.declared.key.Key.TheVariants.{Cancel, Find, Forward, Insert, PasteEnd, PasteStart, Right, Select, Undo}
 use Rattle.bx_store.specs.declared.store.StoreFault.{StoreFault}
 use Rattle.bx_editor.specs.declared.search_state.SearchState.TheVariants.{Off}
 use Rattle.bx_editor.specs.Editor.{Editor}
@@ -59,14 +59,14 @@ abbrev two_selected : Editor
 two_selected = after (start (codes "abcd") 2 40) (Select ∷ Forward ∷ Select ∷ Forward ∷ [])
 
 pub a_selection_comes_back : PasteComesBack
-    → Has (codes "abcd") 2 (after two_selected (PasteStart ∷ letters (codes "xy") ++ PasteEnd ∷ UndoRun ∷ []))
+    → Has (codes "abcd") 2 (after two_selected (PasteStart ∷ letters (codes "xy") ++ PasteEnd ∷ Undo ∷ []))
 unfolding unicode_segmentation unicode_width digits
 a_selection_comes_back law =
     let back = (law tables two_selected (codes "xy") (record { unasked = refl; unsought = refl }) refl).with_room refl (λ none. cc none) refl in
     (back.text_is, back.unmarked.place_is)
 
 pub a_pasted_line_end_comes_back : PasteComesBack
-    → (after (start (codes "xy") 2 40) (Forward ∷ PasteStart ∷ letters (codes "b\nc") ++ PasteEnd ∷ UndoRun ∷ [])).content.text ≡ codes "xy"
+    → (after (start (codes "xy") 2 40) (Forward ∷ PasteStart ∷ letters (codes "b\nc") ++ PasteEnd ∷ Undo ∷ [])).content.text ≡ codes "xy"
 unfolding unicode_segmentation unicode_width digits
 a_pasted_line_end_comes_back law =
     let more : 0 < 1 = omega arith in

@@ -33,7 +33,7 @@ use Rattle.bx_editor_laws.specs.PastingLaws.{EndAtTheirPlaces, IsFree, PasteCome
 use Rattle.bx_editor.proofs.OnePaste.{paste-is-one-edit}
 use Rattle.bx_editor_laws.proofs.OneRun.{character-is, insert-is, no-selection, paste-is-a-run, start-is}
 
--- ---- one UndoRun takes it back
+-- ---- one Undo takes it back
 
 grown : (d : Data) (e : Editor) (cs : List ℕ) (selected : Bool) → is_selection e ≡ selected → IsFree e → e.pasted ≡ None
     → e.read_only ≡ false → brought d e.content.text [] cs ≢ []
@@ -243,7 +243,8 @@ all-typed d (c' ∷ cs) c e free settled writes plain inside room ends =
     let rest = encode_utf8_all (c' ∷ cs) in
     let selected = is_selection e in
     let x = after_key d None e (Insert c) in
-    let first = one-typed d e c free settled writes (All-head (Plain e.tab_width) c (c' ∷ cs) plain) (fewer-fit (length e.content.text) (gap e selected).0 (gap e selected).1 (length (new ++ rest)) (length new) largest_text
+    let first = one-typed d e c free settled writes (All-head (Plain e.tab_width) c (c' ∷ cs) plain)
+    (fewer-fit (length e.content.text) (gap e selected).0 (gap e selected).1 (length (new ++ rest)) (length new) largest_text
     room (omega (arith, length-append new rest))) in
     let none : is_selection x ≡ false = no-selection x first.soft in
     let roomy = room-on d e x selected new rest inside room first.put none in

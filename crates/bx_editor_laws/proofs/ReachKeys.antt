@@ -24,8 +24,8 @@ use Rattle.bx_editor.proofs.EffectsKept as kept
 use Rattle.bx_editor.proofs.InSearch.{each-key}
 use Rattle.bx_editor_laws.specs.Laws.{after_typing}
 use Rattle.bx_editor_laws.specs.StoredLaws.{KeepsInReach, StaysInReach, may_edit, stores}
-use Rattle.bx_editor_laws.proofs.InReach.{InPast, InReach, ended, file-letter, is_typed, name, overwriting, pressed, query, question, question-letter, replacement}
-use Rattle.bx_editor_laws.proofs.InReach.{shown, typed-key}
+use Rattle.bx_editor_laws.proofs.InReach.{ended, file-letter, name, overwriting, query, question, question-letter, replacement, shown}
+use Rattle.bx_editor_laws.proofs.ReachEffects.{InPast, InReach, is_typed, pressed, typed-key}
 use Rattle.bx_editor_laws.proofs.PasteEnded.{ends-first, none-ended, over}
 use Rattle.bx_editor_laws.proofs.StoredKeys.{is-some-if, repaint-saves, saving-settled}
 

@@ -5,7 +5,7 @@ use Rattle.std.specs.Fmt.{digits}
 use Rattle.unicode_segmentation.proofs.Computing.{unicode_segmentation}
 use Rattle.unicode_width.proofs.Computing.{unicode_width}
 use Rattle.bx_keys.specs.declared.key.Key.{Key}
-use Rattle.bx_keys.specs.declared.key.Key.TheVariants.{Insert, Erase, Delete, Forward, Down, RowEnd, Save, Quit, Undo, Redo, Direction, Size}
+use Rattle.bx_keys.specs.declared.key.Key.TheVariants.{Insert, Erase, Delete, Forward, Down, RowEnd, Save, Quit, UndoEdit, RedoEdit, Direction, Size}
 use Rattle.bx_keys.specs.declared.key.Key.TheVariants.{Mark, Copy, Cut, Put, Help}
 use Rattle.bx_editor.specs.declared.message.Message.{Message}
 use Rattle.bx_editor.specs.declared.message.Message.TheVariants as messages
@@ -41,15 +41,15 @@ pub a_letter_takes_the_mark_away : marked (from (codes "ab") (Mark ∷ letters (
 unfolding unicode_segmentation unicode_width digits
 a_letter_takes_the_mark_away = refl
 
-pub undo_takes_the_mark_away : marked (from (codes "ab") (Insert 0x78 ∷ Mark ∷ Undo ∷ [])) ≡ (codes "ab", 0, None, None)
+pub undo_takes_the_mark_away : marked (from (codes "ab") (Insert 0x78 ∷ Mark ∷ UndoEdit ∷ [])) ≡ (codes "ab", 0, None, None)
 unfolding unicode_segmentation unicode_width digits
 undo_takes_the_mark_away = refl
 
-pub redo_takes_the_mark_away : marked (from (codes "ab") (Insert 0x78 ∷ Undo ∷ Mark ∷ Redo ∷ [])) ≡ (codes "xab", 1, None, None)
+pub redo_takes_the_mark_away : marked (from (codes "ab") (Insert 0x78 ∷ UndoEdit ∷ Mark ∷ RedoEdit ∷ [])) ≡ (codes "xab", 1, None, None)
 unfolding unicode_segmentation unicode_width digits
 redo_takes_the_mark_away = refl
 
-pub nothing_to_redo_leaves_the_mark : marked (from (codes "ab") (Mark ∷ Redo ∷ [])) ≡ (codes "ab", 0, Some 0, Some messages.NothingToRedo)
+pub nothing_to_redo_leaves_the_mark : marked (from (codes "ab") (Mark ∷ RedoEdit ∷ [])) ≡ (codes "ab", 0, Some 0, Some messages.NothingToRedo)
 unfolding unicode_segmentation unicode_width digits
 nothing_to_redo_leaves_the_mark = refl
 
@@ -103,7 +103,7 @@ pub a_cut_takes_the_mark_away : marked (from (codes "abcd") (Mark ∷ Forward �
 unfolding unicode_segmentation unicode_width digits
 a_cut_takes_the_mark_away = refl
 
-pub a_cut_is_one_edit : held (from (codes "abcd") (Forward ∷ Mark ∷ Forward ∷ Forward ∷ Cut ∷ Undo ∷ [])) ≡ (codes "abcd", 3, codes "bc")
+pub a_cut_is_one_edit : held (from (codes "abcd") (Forward ∷ Mark ∷ Forward ∷ Forward ∷ Cut ∷ UndoEdit ∷ [])) ≡ (codes "abcd", 3, codes "bc")
 unfolding unicode_segmentation unicode_width digits
 a_cut_is_one_edit = refl
 
@@ -125,7 +125,7 @@ pub a_line_is_put : held (from (codes "a\nb") (Copy ∷ Put ∷ [])) ≡ (codes 
 unfolding unicode_segmentation unicode_width digits
 a_line_is_put = refl
 
-pub each_put_is_one_edit : held (from (codes "a\nb") (Copy ∷ Put ∷ Put ∷ Undo ∷ [])) ≡ (codes "a\na\nb", 2, codes "a\n")
+pub each_put_is_one_edit : held (from (codes "a\nb") (Copy ∷ Put ∷ Put ∷ UndoEdit ∷ [])) ≡ (codes "a\na\nb", 2, codes "a\n")
 unfolding unicode_segmentation unicode_width digits
 each_put_is_one_edit = refl
 
@@ -134,7 +134,7 @@ pub the_place_is_past_the_cluster : (from (0x65 ∷ 10 ∷ 0x301 ∷ []) (Mark �
 unfolding unicode_segmentation unicode_width digits
 the_place_is_past_the_cluster = refl
 
-pub a_put_empties_the_future : marked (from (codes "ab") (Copy ∷ Insert 0x78 ∷ Undo ∷ Put ∷ Redo ∷ []))
+pub a_put_empties_the_future : marked (from (codes "ab") (Copy ∷ Insert 0x78 ∷ UndoEdit ∷ Put ∷ RedoEdit ∷ []))
     ≡ (codes "ab\nab", 3, None, Some messages.NothingToRedo)
 unfolding unicode_segmentation unicode_width digits
 a_put_empties_the_future = refl

@@ -7,8 +7,8 @@ use Rattle.unicode_normalization.proofs.Computing.{unicode_normalization}
 use Rattle.unicode_segmentation.proofs.Computing.{unicode_segmentation}
 use Rattle.unicode_width.proofs.Computing.{unicode_width}
 use Rattle.bx_keys.specs.declared.key.Key.{Key}
-use Rattle.bx_keys.specs.declared.key.Key.TheVariants.{Insert, Erase, Delete, Copy, Find, FindBack, FindNext, Forward, Mark, Quit, Replace, Repaint, Right, TextEnd, Undo}
-use Rattle.bx_keys.specs.declared.key.Key.TheVariants.{Cancel, NewLine, PasteStart, PasteEnd, RedoRun, UndoRun}
+use Rattle.bx_keys.specs.declared.key.Key.TheVariants.{Insert, Erase, Delete, Copy, Find, FindBack, FindNext, Forward, Mark, Quit, Replace, Repaint, Right, TextEnd, UndoEdit}
+use Rattle.bx_keys.specs.declared.key.Key.TheVariants.{Cancel, NewLine, PasteStart, PasteEnd, Redo, Undo}
 use Rattle.bx_editor.specs.declared.search_state.SearchPurpose.{SearchPurpose}
 use Rattle.bx_editor.specs.declared.search_state.SearchPurpose.TheVariants as purposes
 use Rattle.bx_editor.specs.declared.message.Message.{Message}
@@ -85,15 +85,15 @@ pub each_is_a_run_of_two_edits : runs (codes "abcabc") (showing (codes "b") (cod
 unfolding unicode_segmentation unicode_width digits
 each_is_a_run_of_two_edits = refl
 
-pub an_edit_is_taken_back : replaced (codes "abcabc") (showing (codes "b") (codes "XY") ++ (enter ∷ enter ∷ Undo ∷ [])) ≡ (codes "aXYcac", 5, Off, None)
+pub an_edit_is_taken_back : replaced (codes "abcabc") (showing (codes "b") (codes "XY") ++ (enter ∷ enter ∷ UndoEdit ∷ [])) ≡ (codes "aXYcac", 5, Off, None)
 unfolding unicode_segmentation unicode_width digits
 an_edit_is_taken_back = refl
 
-pub a_run_is_taken_back : replaced (codes "abcabc") (showing (codes "b") (codes "XY") ++ (enter ∷ enter ∷ Undo ∷ UndoRun ∷ UndoRun ∷ [])) ≡ (codes "abcabc", 1, Off, None)
+pub a_run_is_taken_back : replaced (codes "abcabc") (showing (codes "b") (codes "XY") ++ (enter ∷ enter ∷ UndoEdit ∷ Undo ∷ Undo ∷ [])) ≡ (codes "abcabc", 1, Off, None)
 unfolding unicode_segmentation unicode_width digits
 a_run_is_taken_back = refl
 
-pub a_run_comes_again : replaced (codes "abcabc") (showing (codes "b") (codes "XY") ++ (enter ∷ enter ∷ UndoRun ∷ UndoRun ∷ RedoRun ∷ [])) ≡ (codes "aXYcabc", 3, Off, None)
+pub a_run_comes_again : replaced (codes "abcabc") (showing (codes "b") (codes "XY") ++ (enter ∷ enter ∷ Undo ∷ Undo ∷ Redo ∷ [])) ≡ (codes "aXYcabc", 3, Off, None)
 unfolding unicode_segmentation unicode_width digits
 a_run_comes_again = refl
 
@@ -119,11 +119,11 @@ pub all_are_one_run : runs (codes "b b b") (Forward ∷ Forward ∷ showing (cod
 unfolding unicode_segmentation unicode_width digits
 all_are_one_run = refl
 
-pub all_are_taken_back_at_once : replaced (codes "b b b") (Forward ∷ Forward ∷ showing (codes "b") (codes "xy") ++ (Replace ∷ []) ++ (UndoRun ∷ [])) ≡ (codes "b b b", 2, Off, None)
+pub all_are_taken_back_at_once : replaced (codes "b b b") (Forward ∷ Forward ∷ showing (codes "b") (codes "xy") ++ (Replace ∷ []) ++ (Undo ∷ [])) ≡ (codes "b b b", 2, Off, None)
 unfolding unicode_segmentation unicode_width digits
 all_are_taken_back_at_once = refl
 
-pub all_come_again : replaced (codes "b b b") (Forward ∷ Forward ∷ showing (codes "b") (codes "xy") ++ (Replace ∷ []) ++ (UndoRun ∷ RedoRun ∷ [])) ≡ (codes "b xy xy", 7, Off, None)
+pub all_come_again : replaced (codes "b b b") (Forward ∷ Forward ∷ showing (codes "b") (codes "xy") ++ (Replace ∷ []) ++ (Undo ∷ Redo ∷ [])) ≡ (codes "b xy xy", 7, Off, None)
 unfolding unicode_segmentation unicode_width digits
 all_come_again = refl
 
@@ -219,13 +219,13 @@ pub places_are_the_least : replaced (0x61 ∷ 0x62 ∷ 0x93f ∷ []) (showing (c
 unfolding unicode_segmentation unicode_width digits
 places_are_the_least = refl
 
-pub the_place_between_them : replaced (0x61 ∷ 0x62 ∷ 0x93f ∷ []) (showing (codes "b") (codes "k") ++ (enter ∷ Undo ∷ [])) ≡ (encode_utf8_all (0x61 ∷ 0x93f ∷ []), 4, Off, None)
+pub the_place_between_them : replaced (0x61 ∷ 0x62 ∷ 0x93f ∷ []) (showing (codes "b") (codes "k") ++ (enter ∷ UndoEdit ∷ [])) ≡ (encode_utf8_all (0x61 ∷ 0x93f ∷ []), 4, Off, None)
 unfolding unicode_segmentation unicode_width digits
 the_place_between_them = refl
 
 -- ---- the questions
 
-pub the_old_query_and_the_old_replacement : asked (codes "abab") (showing (codes "a") (codes "x") ++ (Replace ∷ UndoRun ∷ Replace ∷ enter ∷ Replace ∷ [])) ≡ (Replacing, purposes.Replace, 0, None)
+pub the_old_query_and_the_old_replacement : asked (codes "abab") (showing (codes "a") (codes "x") ++ (Replace ∷ Undo ∷ Replace ∷ enter ∷ Replace ∷ [])) ≡ (Replacing, purposes.Replace, 0, None)
 unfolding unicode_segmentation unicode_width digits
 the_old_query_and_the_old_replacement = refl
 
@@ -319,7 +319,7 @@ pub find_next_does_so_too : typed (codes "abab") (Replace ∷ Insert 0x62 ∷ en
 unfolding unicode_segmentation unicode_width digits unicode_normalization ucd_case
 find_next_does_so_too = refl
 
-pub undo_ends_it : replaced (codes "b b") (showing (codes "b") (codes "x") ++ (enter ∷ UndoRun ∷ [])) ≡ (codes "b b", 0, Off, None)
+pub undo_ends_it : replaced (codes "b b") (showing (codes "b") (codes "x") ++ (enter ∷ Undo ∷ [])) ≡ (codes "b b", 0, Off, None)
 unfolding unicode_segmentation unicode_width digits
 undo_ends_it = refl
 

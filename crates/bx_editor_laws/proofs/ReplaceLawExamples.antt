@@ -10,7 +10,7 @@ use Rattle.unicode_width.proofs.Computing.{unicode_width}
 use Rattle.bx_common.specs.Characters.{largest_text}
 use Rattle.bx_common.specs.declared.base.Base.TheVariants.{Auto}
 use Rattle.bx_keys.specs.declared.key.Key.{Key}
-use Rattle.bx_keys.specs.declared.key.Key.TheVariants.{Find, Insert, Replace, UndoRun}
+use Rattle.bx_keys.specs.declared.key.Key.TheVariants.{Find, Insert, Replace, Undo}
 use Rattle.bx_store.specs.declared.store.StoreFault.{StoreFault}
 use Rattle.bx_find.specs.Nearest.{MatchesAt}
 use Rattle.bx_find.specs.Letters.{letters}
@@ -136,11 +136,11 @@ the_next_b_is_at_three law =
 
 -- ---- what was replaced comes back, and the same letters stay
 
-pub xy_is_taken_back : ReplacedComesBack → let e = after at_b (enter ∷ UndoRun ∷ []) in (e.content.text ≡ codes "abcb") × (e.place ≡ 1)
+pub xy_is_taken_back : ReplacedComesBack → let e = after at_b (enter ∷ Undo ∷ []) in (e.content.text ≡ codes "abcb") × (e.place ≡ 1)
 unfolding unicode_segmentation unicode_width digits
 xy_is_taken_back law = let back = law tables at_b enter refl refl refl refl (inl refl) (omega arith) in (back.text_is, back.unmarked.place_is)
 
-pub both_are_taken_back : ReplacedComesBack → let e = after at_b (Replace ∷ UndoRun ∷ []) in (e.content.text ≡ codes "abcb") × (e.place ≡ 1)
+pub both_are_taken_back : ReplacedComesBack → let e = after at_b (Replace ∷ Undo ∷ []) in (e.content.text ≡ codes "abcb") × (e.place ≡ 1)
 unfolding unicode_segmentation unicode_width digits
 both_are_taken_back law = let back = law tables at_b Replace refl refl refl refl (inr refl) (omega arith) in (back.text_is, back.unmarked.place_is)
 

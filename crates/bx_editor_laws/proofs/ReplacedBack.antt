@@ -1,7 +1,7 @@
--- One UndoRun takes back all that a key replaced.
+-- One Undo takes back all that a key replaced.
 use Rattle.std.proofs.Common.{◌≡◌, ℕ, suc, ◌+◌, ◌<◌, Bool, true, false, List, [], ◌∷◌, length, Option, Some, None, refl, ap, sym, ◌∙◌, arith, inl, inr, if◌then◌else◌}
 use Rattle.std.specs.Prelude.{◌⊎◌}
-use Rattle.bx_keys.specs.declared.key.Key.TheVariants.{UndoRun}
+use Rattle.bx_keys.specs.declared.key.Key.TheVariants.{Undo}
 use Rattle.bx_text.specs.Edits.{Edit, fits}
 use Rattle.bx_editor.specs.undo_groups.Groups.{edited, run_start}
 use Rattle.bx_editor.proofs.TwoEdits.{runs-of-two}
@@ -95,7 +95,7 @@ module _ (d : Data) (e : Editor) (h : IsOpen e) where
 works : (e : Editor) → IsOpen e → DoesWork e
 works e h = record { settled = h.0; other = λ over. let both = sym h.1.0 ∙ over in cc both; writes = h.1.1 }
 
-came-back : (d : Data) (first e : Editor) → DoesWork e → InRun first e → length first.content.past < length e.content.past → IsBackBefore first (after_key d None e UndoRun)
+came-back : (d : Data) (first e : Editor) → DoesWork e → InRun first e → length first.content.past < length e.content.past → IsBackBefore first (after_key d None e Undo)
 came-back d first e working (inl h) more = absurd (omega (arith, more, ap length h.1.1))
 came-back d first e working (inr h) more = goes-back d first e working h
 

@@ -72,7 +72,7 @@ module _ (ucd : Data) (base : Base) (w : ℕ) (some : 1 ≤ w) (text : List ℕ)
 
 -- ---- keys
 
-keys-append : (d : Data) (e : Editor) (xs ys : List Key) → after_keys d None e (xs ++ ys) ≡ after_keys d None (after_keys d None e xs) ys
+pub keys-append : (d : Data) (e : Editor) (xs ys : List Key) → after_keys d None e (xs ++ ys) ≡ after_keys d None (after_keys d None e xs) ys
 keys-append d e [] ys = refl
 keys-append d e (x ∷ xs) ys = keys-append d (after_key d None e x) xs ys
 

@@ -1,11 +1,11 @@
--- UndoRun and RedoRun: how many steps they make, and where they lead.
+-- Undo and Redo: how many steps they make, and where they lead.
 use Rattle.std.proofs.Common.{◌≡◌, ℕ, zero, suc, ◌+◌, ◌-◌, ◌≤◌, Bool, true, List, [], ◌∷◌, length, take, map, replicate, refl, sym, ap}
 use Rattle.std.proofs.Common.{ap₂, ◌∙◌, arith}
 use Rattle.std.specs.Prelude.{Some, None}
 use Rattle.std.specs.Fn.{iterate}
 use Rattle.std.specs.List.{fold}
 use Rattle.bx_keys.specs.declared.key.Key.{Key}
-use Rattle.bx_keys.specs.declared.key.Key.TheVariants.{Redo, RedoRun, Undo, UndoRun}
+use Rattle.bx_keys.specs.declared.key.Key.TheVariants.{RedoEdit, Redo, UndoEdit, Undo}
 use Rattle.bx_text.specs.Edits.{Edit, Edited, change_back, change_of, merged, next_redos, next_undos, redone_times, undone_times}
 use Rattle.bx_document.specs.History.{next_changes, stepped_times}
 use Rattle.bx_document.specs.declared.history.HistoryStep.TheVariants as steps
@@ -28,12 +28,23 @@ use Rattle.bx_editor.proofs.ManySteps.{again, back, place-again, place-back, red
 -- an editor once a key has led to another text of its history
 abbrev pub stepped_to : Editor → Edited → ℕ → Editor
 stepped_to e content place =
-    record (cleared e) { content = content; place = place; mark = None; soft = softness.Off; search_state = search_states.Off; prompt = prompts.Off; changed = true; goal = None; clicks = None; pressed = None }
+    record (cleared e) {
+      content = content;
+      place = place;
+      mark = None;
+      soft = softness.Off;
+      search_state = search_states.Off;
+      prompt = prompts.Off;
+      changed = true;
+      goal = None;
+      clicks = None;
+      pressed = None;
+    }
 
 abbrev pub run_to : Editor → Edited → ℕ → Bool → Editor
 run_to e content place changed = record (stepped_to e content place) { changed = changed }
 
--- ---- Undo and Redo, one by one; each ends a search and a question
+-- ---- UndoEdit and RedoEdit, one by one; each ends a search and a question
 
 step-works : (e : Editor) (content : Edited) (place : ℕ) → DoesWork e → DoesWork (stepped_to e content place)
 step-works e content place works = record { settled = works.settled; other = λ over. cc over; writes = works.writes }
@@ -42,48 +53,50 @@ pub run-works : (e : Editor) (content : Edited) (place : ℕ) (changed : Bool) �
 run-works e content place changed works = record { settled = works.settled; other = λ over. cc over; writes = works.writes }
 
 undo-first : (d : Data) (e : Editor) (text : List ℕ) (edit : Edit) (past future : List Edit) → DoesWork e
-    → after_key d None (record e { content = version text (edit ∷ past) future }) Undo
+    → after_key d None (record e { content = version text (edit ∷ past) future }) UndoEdit
     ≡ stepped_to e (version edit.before.text past (edit ∷ future)) edit.before.place
 undo-first d e text edit past future works =
-    ended-done d None (record e { content = version text (edit ∷ past) future }) Undo works.settled refl refl refl works.other works.writes
+    ended-done d None (record e { content = version text (edit ∷ past) future }) UndoEdit works.settled refl refl refl works.other works.writes
 
 redo-first : (d : Data) (e : Editor) (text : List ℕ) (edit : Edit) (past future : List Edit) → DoesWork e
-    → after_key d None (record e { content = version text past (edit ∷ future) }) Redo
+    → after_key d None (record e { content = version text past (edit ∷ future) }) RedoEdit
     ≡ stepped_to e (version edit.after.text (edit ∷ past) future) edit.after.place
 redo-first d e text edit past future works =
-    ended-done d None (record e { content = version text past (edit ∷ future) }) Redo works.settled refl refl refl works.other works.writes
+    ended-done d None (record e { content = version text past (edit ∷ future) }) RedoEdit works.settled refl refl refl works.other works.writes
 
 after-undos : (d : Data) (e : Editor) (n : ℕ) (text : List ℕ) (past future : List Edit) (place : ℕ) → DoesWork e → n ≤ length past
     → let at = iterate back n (version text past future, place) in
-    after_keys d None (stepped_to e (version text past future) place) (replicate n Undo) ≡ stepped_to e at.0 at.1
+    after_keys d None (stepped_to e (version text past future) place) (replicate n UndoEdit) ≡ stepped_to e at.0 at.1
 after-undos d e zero text past future place works few = refl
 after-undos d e (suc n) text [] future place works few = absurd (omega (arith, few))
 after-undos d e (suc n) text (edit ∷ past) future place works few =
-    ap (λ new. after_keys d None new (replicate n Undo)) (undo-first d (stepped_to e (version text (edit ∷ past) future) place) text edit past future (step-works e (version text (edit ∷ past) future) place works))
+    ap (λ new. after_keys d None new (replicate n UndoEdit))
+    (undo-first d (stepped_to e (version text (edit ∷ past) future) place) text edit past future (step-works e (version text (edit ∷ past) future) place works))
     ∙ after-undos d e n edit.before.text past (edit ∷ future) edit.before.place works (omega (arith, few))
 
 after-redos : (d : Data) (e : Editor) (n : ℕ) (text : List ℕ) (past future : List Edit) (place : ℕ) → DoesWork e → n ≤ length future
     → let at = iterate again n (version text past future, place) in
-    after_keys d None (stepped_to e (version text past future) place) (replicate n Redo) ≡ stepped_to e at.0 at.1
+    after_keys d None (stepped_to e (version text past future) place) (replicate n RedoEdit) ≡ stepped_to e at.0 at.1
 after-redos d e zero text past future place works few = refl
 after-redos d e (suc n) text past [] place works few = absurd (omega (arith, few))
 after-redos d e (suc n) text past (edit ∷ future) place works few =
-    ap (λ new. after_keys d None new (replicate n Redo)) (redo-first d (stepped_to e (version text past (edit ∷ future)) place) text edit past future (step-works e (version text past (edit ∷ future)) place works))
+    ap (λ new. after_keys d None new (replicate n RedoEdit))
+    (redo-first d (stepped_to e (version text past (edit ∷ future)) place) text edit past future (step-works e (version text past (edit ∷ future)) place works))
     ∙ after-redos d e n edit.after.text (edit ∷ past) future edit.after.place works (omega (arith, few))
 
 all-undos : (d : Data) (e : Editor) (n : ℕ) (text : List ℕ) (edit : Edit) (past future : List Edit) → DoesWork e → n ≤ length past
     → let at = iterate back (suc n) (version text (edit ∷ past) future, e.place) in
-    after_keys d None (record e { content = version text (edit ∷ past) future }) (replicate (suc n) Undo) ≡ stepped_to e at.0 at.1
+    after_keys d None (record e { content = version text (edit ∷ past) future }) (replicate (suc n) UndoEdit) ≡ stepped_to e at.0 at.1
 all-undos d e n text edit past future works few =
-    ap (λ new. after_keys d None new (replicate n Undo))
+    ap (λ new. after_keys d None new (replicate n UndoEdit))
     (undo-first d e text edit past future works)
     ∙ after-undos d e n edit.before.text past (edit ∷ future) edit.before.place works few
 
 all-redos : (d : Data) (e : Editor) (n : ℕ) (text : List ℕ) (edit : Edit) (past future : List Edit) → DoesWork e → n ≤ length future
     → let at = iterate again (suc n) (version text past (edit ∷ future), e.place) in
-    after_keys d None (record e { content = version text past (edit ∷ future) }) (replicate (suc n) Redo) ≡ stepped_to e at.0 at.1
+    after_keys d None (record e { content = version text past (edit ∷ future) }) (replicate (suc n) RedoEdit) ≡ stepped_to e at.0 at.1
 all-redos d e n text edit past future works few =
-    ap (λ new. after_keys d None new (replicate n Redo))
+    ap (λ new. after_keys d None new (replicate n RedoEdit))
     (redo-first d e text edit past future works)
     ∙ after-redos d e n edit.after.text (edit ∷ past) future edit.after.place works few
 
@@ -91,7 +104,7 @@ all-redos d e n text edit past future works few =
 
 pub undo-run : (d : Data) (e : Editor) (n : ℕ) (text : List ℕ) (edit : Edit) (past future : List Edit) → DoesWork e
     → let t : Edited = version text (edit ∷ past) future in let now : Editor = record e { content = t } in group_length steps.Undo now ≡ suc n
-    → after_key d None now UndoRun
+    → after_key d None now Undo
     ≡ run_to e (undone_times (suc n) t) ((iterate back (suc n) (t, e.place)).1) (is_changed_at (group_goal steps.Undo now) e.stored)
 undo-run d e n text edit past future works long =
     let t : Edited = version text (edit ∷ past) future in
@@ -103,11 +116,11 @@ undo-run d e n text edit past future works long =
     let free = without_prompt was in
     let stepped : after_group_step steps.Undo free ≡ with_step free (undone_times (suc n) t) ((iterate back (suc n) (t, e.place)).1) changed =
     ap (by_group steps.Undo free) one ∙ ap₂ (λ k p. with_step free (undone_times k t) p changed) long place in
-    ended-done d None (record e { content = t }) UndoRun works.settled refl refl refl works.other works.writes ∙ ap (as_left UndoRun) stepped
+    ended-done d None (record e { content = t }) Undo works.settled refl refl refl works.other works.writes ∙ ap (as_left Undo) stepped
 
 pub redo-run : (d : Data) (e : Editor) (n : ℕ) (text : List ℕ) (edit : Edit) (past future : List Edit) → DoesWork e
     → let t : Edited = version text past (edit ∷ future) in let now : Editor = record e { content = t } in group_length steps.Redo now ≡ suc n
-    → after_key d None now RedoRun
+    → after_key d None now Redo
     ≡ run_to e (redone_times (suc n) t) ((iterate again (suc n) (t, e.place)).1) (is_changed_at (group_goal steps.Redo now) e.stored)
 redo-run d e n text edit past future works long =
     let t : Edited = version text past (edit ∷ future) in
@@ -119,7 +132,7 @@ redo-run d e n text edit past future works long =
     let free = without_prompt was in
     let stepped : after_group_step steps.Redo free ≡ with_step free (redone_times (suc n) t) ((iterate again (suc n) (t, e.place)).1) changed =
     ap (by_group steps.Redo free) one ∙ ap₂ (λ k p. with_step free (redone_times k t) p changed) long place in
-    ended-done d None (record e { content = t }) RedoRun works.settled refl refl refl works.other works.writes ∙ ap (as_left RedoRun) stepped
+    ended-done d None (record e { content = t }) Redo works.settled refl refl refl works.other works.writes ∙ ap (as_left Redo) stepped
 
 -- ---- nothing to undo, or to redo
 
@@ -157,13 +170,14 @@ no-steps d e key one n same = record { many = λ some. absurd (some refl); some 
 
 undo-steps : (d : Data) (e : Editor) (text : List ℕ) (past future : List Edit) → DoesWork e
     → let now : Editor = record e { content = version text past future } in
-    IsManySteps d now UndoRun Undo (undos now) past
+    IsManySteps d now Undo UndoEdit (undos now) past
 undo-steps d e text [] future works =
     let now : Editor = record e { content = version text [] future } in
     let was = cleared now in
-    no-steps d now UndoRun Undo (undos now)
-    (ended-done d None now UndoRun works.settled refl refl refl works.other works.writes ∙ ap (λ c. as_left Undo (by_group steps.Undo (without_prompt was) c)) (no-undos (group_length steps.Undo was) text future)
-    ∙ sym (ended-done d None now Undo works.settled refl refl refl works.other works.writes))
+    no-steps d now Undo UndoEdit (undos now)
+    (ended-done d None now Undo works.settled refl refl refl works.other works.writes
+    ∙ ap (λ c. as_left UndoEdit (by_group steps.Undo (without_prompt was) c)) (no-undos (group_length steps.Undo was) text future)
+    ∙ sym (ended-done d None now UndoEdit works.settled refl refl refl works.other works.writes))
 undo-steps d e text (edit ∷ past) future works =
     let now : Editor = record e { content = version text (edit ∷ past) future } in
     let n = length past - run_start e.undo_groups (suc (length past)) in
@@ -177,22 +191,23 @@ undo-steps d e text (edit ∷ past) future works =
     ∙ ap (λ (t : Edited). length t.past) (undone-back (suc n) (version text (edit ∷ past) future) e.place) in
     record {
       many = λ some.
-          as-counted (after_key d None now UndoRun) (after_keys d None now (replicate (undos now) Undo)) (stepped_to e at.0 at.1)
+          as-counted (after_key d None now Undo) (after_keys d None now (replicate (undos now) UndoEdit)) (stepped_to e at.0 at.1)
           (group_goal steps.Undo now) (ran ∙ whole)
-          (ap (λ k. after_keys d None now (replicate k Undo)) same ∙ all-undos d e n text edit past future works (omega arith)) goal;
+          (ap (λ k. after_keys d None now (replicate k UndoEdit)) same ∙ all-undos d e n text edit past future works (omega arith)) goal;
       some = λ some. omega (arith, same);
       none = λ is. absurd (cc is);
     }
 
 redo-steps : (d : Data) (e : Editor) (text : List ℕ) (past future : List Edit) → DoesWork e
     → let now : Editor = record e { content = version text past future } in
-    IsManySteps d now RedoRun Redo (redos now) future
+    IsManySteps d now Redo RedoEdit (redos now) future
 redo-steps d e text past [] works =
     let now : Editor = record e { content = version text past [] } in
     let was = cleared now in
-    no-steps d now RedoRun Redo (redos now)
-    (ended-done d None now RedoRun works.settled refl refl refl works.other works.writes ∙ ap (λ c. as_left Redo (by_group steps.Redo (without_prompt was) c)) (no-redos (group_length steps.Redo was) text past)
-    ∙ sym (ended-done d None now Redo works.settled refl refl refl works.other works.writes))
+    no-steps d now Redo RedoEdit (redos now)
+    (ended-done d None now Redo works.settled refl refl refl works.other works.writes
+    ∙ ap (λ c. as_left RedoEdit (by_group steps.Redo (without_prompt was) c)) (no-redos (group_length steps.Redo was) text past)
+    ∙ sym (ended-done d None now RedoEdit works.settled refl refl refl works.other works.writes))
 redo-steps d e text past (edit ∷ future) works =
     let now : Editor = record e { content = version text past (edit ∷ future) } in
     let last = length past + suc (length future) in
@@ -208,9 +223,9 @@ redo-steps d e text past (edit ∷ future) works =
     ∙ ap (λ (t : Edited). length t.past) (redone-again (suc n) (version text past (edit ∷ future)) e.place) in
     record {
       many = λ some.
-          as-counted (after_key d None now RedoRun) (after_keys d None now (replicate (redos now) Redo)) (stepped_to e at.0 at.1)
+          as-counted (after_key d None now Redo) (after_keys d None now (replicate (redos now) RedoEdit)) (stepped_to e at.0 at.1)
           (group_goal steps.Redo now) (ran ∙ whole)
-          (ap (λ k. after_keys d None now (replicate k Redo)) same ∙ all-redos d e n text edit past future works few) goal;
+          (ap (λ k. after_keys d None now (replicate k RedoEdit)) same ∙ all-redos d e n text edit past future works few) goal;
       some = λ some. omega (arith, same);
       none = λ is. absurd (cc is);
     }

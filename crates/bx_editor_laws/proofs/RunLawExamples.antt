@@ -10,9 +10,9 @@ use Rattle.unicode_width.proofs.Computing.{unicode_width}
 use Rattle.bx_common.specs.Characters.{largest_text}
 use Rattle.bx_common.specs.declared.base.Base.TheVariants.{Auto}
 use Rattle.bx_keys.specs.declared.key.Key.{Key}
-use Rattle.bx_keys.specs.declared.key.Key.TheVariants.{Insert, Erase, Delete, Back, Forward, Save, Undo, Mark, Cut, Put, Find, TextEnd}
+use Rattle.bx_keys.specs.declared.key.Key.TheVariants.{Insert, Erase, Delete, Back, Forward, Save, UndoEdit, Mark, Cut, Put, Find, TextEnd}
 use Rattle.bx_keys.specs.declared.key.Key.TheVariants.{TextStart}
-use Rattle.bx_keys.specs.declared.key.Key.TheVariants.{Repaint, UndoRun, RedoRun, PasteStart, PasteEnd}
+use Rattle.bx_keys.specs.declared.key.Key.TheVariants.{Repaint, Undo, Redo, PasteStart, PasteEnd}
 use Rattle.bx_store.specs.declared.store.StoreFault.{StoreFault}
 use Rattle.bx_text.specs.Edits.{Edited}
 use Rattle.bx_editor.specs.undo_groups.Groups.{kind_of}
@@ -47,19 +47,19 @@ pub a_word_and_blanks_are_a_run : run_at [] two_words ≡ (0 ∷ 3 ∷ [], Word)
 unfolding unicode_segmentation unicode_width digits
 a_word_and_blanks_are_a_run = refl
 
-pub the_last_word_is_taken_back : edited [] (two_words ++ UndoRun ∷ []) ≡ (codes "ab ", 3)
+pub the_last_word_is_taken_back : edited [] (two_words ++ Undo ∷ []) ≡ (codes "ab ", 3)
 unfolding unicode_segmentation unicode_width digits
 the_last_word_is_taken_back = refl
 
-pub both_words_are_taken_back : edited [] (two_words ++ UndoRun ∷ UndoRun ∷ []) ≡ ([], 0)
+pub both_words_are_taken_back : edited [] (two_words ++ Undo ∷ Undo ∷ []) ≡ ([], 0)
 unfolding unicode_segmentation unicode_width digits
 both_words_are_taken_back = refl
 
-pub then_nothing_is_left : told [] (two_words ++ replicate 3 UndoRun) ≡ (false, Some NothingToUndo)
+pub then_nothing_is_left : told [] (two_words ++ replicate 3 Undo) ≡ (false, Some NothingToUndo)
 unfolding unicode_segmentation unicode_width digits
 then_nothing_is_left = refl
 
-pub both_words_come_again : edited [] (two_words ++ UndoRun ∷ UndoRun ∷ RedoRun ∷ RedoRun ∷ []) ≡ (codes "ab cd", 5)
+pub both_words_come_again : edited [] (two_words ++ Undo ∷ Undo ∷ Redo ∷ Redo ∷ []) ≡ (codes "ab cd", 5)
 unfolding unicode_segmentation unicode_width digits
 both_words_come_again = refl
 
@@ -98,15 +98,15 @@ pub a_paste_is_a_run : run_at [] a_paste ≡ (0 ∷ 1 ∷ 2 ∷ [], Word)
 unfolding unicode_segmentation unicode_width digits
 a_paste_is_a_run = refl
 
-pub a_paste_is_taken_back : edited [] (a_paste ++ UndoRun ∷ UndoRun ∷ []) ≡ (codes "a", 1)
+pub a_paste_is_taken_back : edited [] (a_paste ++ Undo ∷ Undo ∷ []) ≡ (codes "a", 1)
 unfolding unicode_segmentation unicode_width digits
 a_paste_is_taken_back = refl
 
-pub undo_takes_one_edit_of_a_run : edited [] (letters (codes "abc") ++ Undo ∷ []) ≡ (codes "ab", 2)
+pub undo_takes_one_edit_of_a_run : edited [] (letters (codes "abc") ++ UndoEdit ∷ []) ≡ (codes "ab", 2)
 unfolding unicode_segmentation unicode_width digits
 undo_takes_one_edit_of_a_run = refl
 
-pub in_the_middle_of_a_run_a_new_one_begins : run_at [] (letters (codes "abc") ++ Undo ∷ letters (codes "x")) ≡ (0 ∷ 2 ∷ [], Word)
+pub in_the_middle_of_a_run_a_new_one_begins : run_at [] (letters (codes "abc") ++ UndoEdit ∷ letters (codes "x")) ≡ (0 ∷ 2 ∷ [], Word)
 unfolding unicode_segmentation unicode_width digits
 in_the_middle_of_a_run_a_new_one_begins = refl
 
@@ -130,19 +130,19 @@ pub an_erasure_ends_a_paste : run_at (codes "ab") (TextEnd ∷ PasteStart ∷ In
 unfolding unicode_segmentation unicode_width digits
 an_erasure_ends_a_paste = refl
 
-pub a_new_word_takes_the_place_of_old_runs : run_at [] (letters (codes "ab cd ef") ++ UndoRun ∷ UndoRun ∷ letters (codes "wxyz")) ≡ (0 ∷ 3 ∷ [], Word)
+pub a_new_word_takes_the_place_of_old_runs : run_at [] (letters (codes "ab cd ef") ++ Undo ∷ Undo ∷ letters (codes "wxyz")) ≡ (0 ∷ 3 ∷ [], Word)
 unfolding unicode_segmentation unicode_width digits
 a_new_word_takes_the_place_of_old_runs = refl
 
-pub the_place_is_that_of_the_last_step : edited (codes "ab") (Forward ∷ letters (codes "xy") ++ TextStart ∷ UndoRun ∷ TextEnd ∷ RedoRun ∷ []) ≡ (codes "axyb", 3)
+pub the_place_is_that_of_the_last_step : edited (codes "ab") (Forward ∷ letters (codes "xy") ++ TextStart ∷ Undo ∷ TextEnd ∷ Redo ∷ []) ≡ (codes "axyb", 3)
 unfolding unicode_segmentation unicode_width digits
 the_place_is_that_of_the_last_step = refl
 
-pub an_undone_run_takes_the_mark : (after (start (codes "ab") 5 40) (Forward ∷ letters (codes "xy") ++ Mark ∷ UndoRun ∷ [])).mark ≡ None
+pub an_undone_run_takes_the_mark : (after (start (codes "ab") 5 40) (Forward ∷ letters (codes "xy") ++ Mark ∷ Undo ∷ [])).mark ≡ None
 unfolding unicode_segmentation unicode_width digits
 an_undone_run_takes_the_mark = refl
 
-pub without_an_edit_the_mark_stays : (after (start (codes "ab") 5 40) (Forward ∷ Mark ∷ UndoRun ∷ [])).mark ≡ Some 1
+pub without_an_edit_the_mark_stays : (after (start (codes "ab") 5 40) (Forward ∷ Mark ∷ Undo ∷ [])).mark ≡ Some 1
 unfolding unicode_segmentation unicode_width digits
 without_an_edit_the_mark_stays = refl
 
@@ -153,42 +153,42 @@ a_paste_in_a_search_is_no_edit = refl
 -- ---- what counts as changed
 
 abbrev xy_undone : List Key
-xy_undone = letters (codes "xy") ++ Undo ∷ Undo ∷ []
+xy_undone = letters (codes "xy") ++ UndoEdit ∷ UndoEdit ∷ []
 
 pub undone_one_by_one_it_counts_as_changed : (told (codes "ab") xy_undone).0 ≡ true
 unfolding unicode_segmentation unicode_width digits
 undone_one_by_one_it_counts_as_changed = refl
 
-pub undone_by_its_run_it_does_not : (told (codes "ab") (letters (codes "xy") ++ UndoRun ∷ [])).0 ≡ false
+pub undone_by_its_run_it_does_not : (told (codes "ab") (letters (codes "xy") ++ Undo ∷ [])).0 ≡ false
 unfolding unicode_segmentation unicode_width digits
 undone_by_its_run_it_does_not = refl
 
 abbrev saved_in_the_middle : List Key
 saved_in_the_middle = letters (codes "ab") ++ Save ∷ letters (codes " cd")
 
-pub at_the_saved_text_it_does_not : (told [] (saved_in_the_middle ++ UndoRun ∷ UndoRun ∷ [])).0 ≡ false
+pub at_the_saved_text_it_does_not : (told [] (saved_in_the_middle ++ Undo ∷ Undo ∷ [])).0 ≡ false
 unfolding unicode_segmentation unicode_width digits
 at_the_saved_text_it_does_not = refl
 
-pub before_it_it_does : (told [] (saved_in_the_middle ++ replicate 3 UndoRun)).0 ≡ true
+pub before_it_it_does : (told [] (saved_in_the_middle ++ replicate 3 Undo)).0 ≡ true
 unfolding unicode_segmentation unicode_width digits
 before_it_it_does = refl
 
-pub an_edit_before_it_loses_it : (after (start [] 5 40) (letters (codes "ab") ++ Save ∷ Undo ∷ letters (codes "x"))).stored ≡ None
+pub an_edit_before_it_loses_it : (after (start [] 5 40) (letters (codes "ab") ++ Save ∷ UndoEdit ∷ letters (codes "x"))).stored ≡ None
 unfolding unicode_segmentation unicode_width digits
 an_edit_before_it_loses_it = refl
 
-pub made_again_up_to_it_it_does_not : (told [] (saved_in_the_middle ++ replicate 3 UndoRun ++ RedoRun ∷ [])).0 ≡ false
+pub made_again_up_to_it_it_does_not : (told [] (saved_in_the_middle ++ replicate 3 Undo ++ Redo ∷ [])).0 ≡ false
 unfolding unicode_segmentation unicode_width digits
 made_again_up_to_it_it_does_not = refl
 
-pub once_it_is_lost_nothing_leads_to_it : (told [] (letters (codes "ab") ++ Save ∷ UndoRun ∷ letters (codes "x") ++ UndoRun ∷ RedoRun ∷ [])).0 ≡ true
+pub once_it_is_lost_nothing_leads_to_it : (told [] (letters (codes "ab") ++ Save ∷ Undo ∷ letters (codes "x") ++ Undo ∷ Redo ∷ [])).0 ≡ true
 unfolding unicode_segmentation unicode_width digits
 once_it_is_lost_nothing_leads_to_it = refl
 
 -- a save that fails, and no other program wrote the file
 abbrev with_a_failed_save : List (Key × Option StoreFault)
-with_a_failed_save = (Insert 0x78, None) ∷ (Save, Some (record { cause = None })) ∷ (UndoRun, None) ∷ []
+with_a_failed_save = (Insert 0x78, None) ∷ (Save, Some (record { cause = None })) ∷ (Undo, None) ∷ []
 
 pub a_failed_save_stores_nothing : (after_typing tables (start (codes "ab") 5 40) with_a_failed_save).changed ≡ false
 unfolding unicode_segmentation unicode_width digits
@@ -199,19 +199,19 @@ a_failed_save_stores_nothing = refl
 abbrev behind_a_word : Editor
 behind_a_word = after (start [] 5 40) (letters (codes "abc"))
 
-pub a_run_is_three_undos : RunKeysAreSteps → let e = after behind_a_word (UndoRun ∷ []) in (e.content.text ≡ []) × (e.place ≡ 0)
+pub a_run_is_three_undos : RunKeysAreSteps → let e = after behind_a_word (Undo ∷ []) in (e.content.text ≡ []) × (e.place ≡ 0)
 unfolding unicode_segmentation unicode_width digits
 a_run_is_three_undos law =
     let many = (law tables behind_a_word refl (λ over. cc over) refl).undo.many (λ none. let three : 3 ≡ 0 = ap length none in cc three) in
     (ap (λ (e : Editor). e.content.text) many, ap (λ (e : Editor). e.place) many)
 
-pub back_at_the_opened_text_it_does_not : RunKeysAreSteps → (after behind_a_word (UndoRun ∷ [])).changed ≡ false
+pub back_at_the_opened_text_it_does_not : RunKeysAreSteps → (after behind_a_word (Undo ∷ [])).changed ≡ false
 unfolding unicode_segmentation unicode_width digits
 back_at_the_opened_text_it_does_not law =
     ap (λ (e : Editor). e.changed) ((law tables behind_a_word refl (λ over. cc over) refl).undo.many (λ none. let three : 3 ≡ 0 = ap length none in cc three))
 
 pub without_an_edit_the_message_is_that_of_undo : RunKeysAreSteps
-    → (after (start (codes "a") 5 40) (UndoRun ∷ [])).message ≡ Some NothingToUndo
+    → (after (start (codes "a") 5 40) (Undo ∷ [])).message ≡ Some NothingToUndo
 unfolding unicode_segmentation unicode_width digits
 without_an_edit_the_message_is_that_of_undo law = ap (λ (e : Editor). e.message) ((law tables (start (codes "a") 5 40) refl (λ over. cc over) refl).undo.none refl)
 
@@ -219,7 +219,7 @@ abbrev typed : List Key → List (Key × Option StoreFault)
 typed keys = map (λ key. (key, None)) keys
 
 pub undone_and_made_again : RedoRunMirrorsUndoRun
-    → (after (start [] 5 40) (two_words ++ UndoRun ∷ RedoRun ∷ [])).content.text ≡ codes "ab cd"
+    → (after (start [] 5 40) (two_words ++ Undo ∷ Redo ∷ [])).content.text ≡ codes "ab cd"
 unfolding unicode_segmentation unicode_width digits
 undone_and_made_again law =
     let some : 0 < 5 = omega arith in
@@ -227,7 +227,7 @@ undone_and_made_again law =
     ap (λ (t : Edited). t.text) ((law tables [] 5 40 Auto (typed two_words) refl (λ over. cc over)).redo (some, all, inr refl))
 
 pub a_word_and_its_blank_are_taken_back : WordIsARun
-    → (after (start (codes "x") 5 40) (letters (codes "ab ") ++ UndoRun ∷ [])).content.text ≡ codes "x"
+    → (after (start (codes "x") 5 40) (letters (codes "ab ") ++ Undo ∷ [])).content.text ≡ codes "x"
 unfolding unicode_segmentation unicode_width digits
 a_word_and_its_blank_are_taken_back law =
     let fit : 4 ≤ largest_text = omega arith in
@@ -243,9 +243,9 @@ a_word_and_its_blank_are_taken_back law =
     (law tables (start (codes "x") 5 40) (codes "ab") (codes " ") refl refl refl refl refl word no-tabs fit).text_is
 
 pub unchanged_at_the_saved_text : UnchangedIsStored
-    → (after (start [] 5 40) (saved_in_the_middle ++ UndoRun ∷ UndoRun ∷ [])).content.text ≡ codes "ab"
+    → (after (start [] 5 40) (saved_in_the_middle ++ Undo ∷ Undo ∷ [])).content.text ≡ codes "ab"
 unfolding unicode_segmentation unicode_width digits
-unchanged_at_the_saved_text law = law tables [] 5 40 Auto (typed (saved_in_the_middle ++ UndoRun ∷ UndoRun ∷ [])) refl
+unchanged_at_the_saved_text law = law tables [] 5 40 Auto (typed (saved_in_the_middle ++ Undo ∷ Undo ∷ [])) refl
 
 pub unchanged_at_the_opened_text : UnchangedIsStored
     → (after_typing tables (start (codes "ab") 5 40) with_a_failed_save).content.text ≡ codes "ab"

@@ -9,7 +9,7 @@ use Rattle.unicode_width.proofs.Computing.{unicode_width}
 use Rattle.bx_common.specs.Characters.{largest_text}
 use Rattle.bx_keys.specs.declared.key.Key.{Key}
 use Rattle.bx_keys.specs.declared.key.Key.TheVariants.{Insert, Erase, Delete, Back, Forward, Mark, Copy, Cancel, Find, Put, TextEnd, EraseWord, DeleteWord, ErasePoint, NewLine}
-use Rattle.bx_keys.specs.declared.key.Key.TheVariants.{Select, UndoRun, PasteStart, PasteEnd, Help}
+use Rattle.bx_keys.specs.declared.key.Key.TheVariants.{Select, Undo, PasteStart, PasteEnd, Help}
 use Rattle.bx_editor.specs.declared.message.Message.TheVariants.{Pasting}
 use Rattle.bx_editor.specs.declared.cursor.Soft.{Soft}
 use Rattle.bx_editor.specs.declared.cursor.Soft.TheVariants.{Off, Fresh, Old}
@@ -79,7 +79,7 @@ pub all_of_one_run : (after (start (codes "abcd") 4 40) (two ++ letters (codes "
 unfolding unicode_segmentation unicode_width digits
 all_of_one_run = refl
 
-pub it_comes_back : edited (codes "abcd") (two ++ letters (codes "xy") ++ UndoRun ∷ []) ≡ (codes "abcd", (3, None))
+pub it_comes_back : edited (codes "abcd") (two ++ letters (codes "xy") ++ Undo ∷ []) ≡ (codes "abcd", (3, None))
 unfolding unicode_segmentation unicode_width digits
 it_comes_back = refl
 
@@ -206,13 +206,13 @@ pub a_search_takes_it_off : SeekingTakesSelectionOff → (after two_selected (Fi
 unfolding unicode_segmentation unicode_width digits
 a_search_takes_it_off law = (law tables two_selected Find refl refl (λ over. cc over) refl (λ is. refl)).old refl
 
-pub a_replaced_one_comes_back : SelectionComesBack → let e = after two_selected (Insert 0x78 ∷ UndoRun ∷ []) in (e.content.text ≡ codes "abcd") × (e.place ≡ 3)
+pub a_replaced_one_comes_back : SelectionComesBack → let e = after two_selected (Insert 0x78 ∷ Undo ∷ []) in (e.content.text ≡ codes "abcd") × (e.place ≡ 3)
 unfolding unicode_segmentation unicode_width digits
 a_replaced_one_comes_back law =
     let fit : 3 ≤ largest_text = omega arith in
     let back = (law tables two_selected (Insert 0x78) two_are_a_selection).replaced (λ none. cc none) fit in
     (back.text_is, back.unmarked.place_is)
 
-pub a_removed_one_comes_back : SelectionComesBack → (after two_selected (Delete ∷ UndoRun ∷ [])).content.text ≡ codes "abcd"
+pub a_removed_one_comes_back : SelectionComesBack → (after two_selected (Delete ∷ Undo ∷ [])).content.text ≡ codes "abcd"
 unfolding unicode_segmentation unicode_width digits
 a_removed_one_comes_back law = ((law tables two_selected Delete two_are_a_selection).removed refl).text_is

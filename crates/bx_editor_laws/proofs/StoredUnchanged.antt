@@ -1,9 +1,9 @@
--- UndoRun and RedoRun find the stored text unchanged as long as it is in reach.
+-- Undo and Redo find the stored text unchanged as long as it is in reach.
 use Rattle.std.proofs.Common.{◌≡◌, ℕ, true, false, List, [], length, replicate, refl, sym, ap, ap₂, ◌∙◌, arith, ne_eqb, inr}
 use Rattle.std.specs.Prelude.{◌≢◌, ◌==◌, ◌&&◌, not, None}
 use Rattle.std.proofs.lemmas.Bool.Decides.{nat_tests}
 use Rattle.bx_keys.specs.declared.key.Key.{Key}
-use Rattle.bx_keys.specs.declared.key.Key.TheVariants.{Redo, RedoRun, Undo, UndoRun}
+use Rattle.bx_keys.specs.declared.key.Key.TheVariants.{RedoEdit, Redo, UndoEdit, Undo}
 use Rattle.bx_editor.specs.declared.answer.Answer.TheVariants as answers
 use Rattle.bx_editor.specs.Answering.{answer_of}
 use Rattle.bx_text.specs.Edits.{Edit}
@@ -14,7 +14,7 @@ use Rattle.bx_editor.specs.Functions.{after_keys}
 use Rattle.bx_editor_laws.specs.Laws.{after_typing}
 use Rattle.bx_editor_laws.specs.RunLaws.{redos, saving_editor, undos}
 use Rattle.bx_editor_laws.specs.StoredLaws.{CountsChanges, RunsCountChanges, StoredIsUnchanged, stores}
-use Rattle.bx_editor_laws.proofs.InReach.{InReach}
+use Rattle.bx_editor_laws.proofs.ReachEffects.{InReach}
 use Rattle.bx_editor_laws.proofs.ReachKeys.{all-stay, key-stays}
 use Rattle.bx_editor_laws.proofs.StoredKeys.{told-saves}
 use Rattle.bx_editor_laws.proofs.StoredNow.{key-stores}
@@ -46,12 +46,12 @@ module _ (n : ℕ) (d : Data) where
   runs-count : (e : Editor) → InReach n d e → RunsCountChanges d n e
   runs-count e h settled asked writes =
       let all = run-keys-are-steps d e settled asked writes in
-      let undone = after_key d None e UndoRun in
-      let redone = after_key d None e RedoRun in
-      let undone-in : InReach n d undone = key-stays n d None e UndoRun h (inr (refl, settled)) (run-stores e UndoRun refl refl) in
-      let redone-in : InReach n d redone = key-stays n d None e RedoRun h (inr (refl, settled)) (run-stores e RedoRun refl refl) in
-      let undos-made = after_keys d None e (replicate (undos e) Undo) in
-      let redos-made = after_keys d None e (replicate (redos e) Redo) in (
+      let undone = after_key d None e Undo in
+      let redone = after_key d None e Redo in
+      let undone-in : InReach n d undone = key-stays n d None e Undo h (inr (refl, settled)) (run-stores e Undo refl refl) in
+      let redone-in : InReach n d redone = key-stays n d None e Redo h (inr (refl, settled)) (run-stores e Redo refl refl) in
+      let undos-made = after_keys d None e (replicate (undos e) UndoEdit) in
+      let redos-made = after_keys d None e (replicate (redos e) RedoEdit) in (
         counts e.content.past undone (λ some. told undone undos-made undone-in (all.undo.many some)),
         counts e.content.future redone (λ some. told redone redos-made redone-in (all.redo.many some)),
       )

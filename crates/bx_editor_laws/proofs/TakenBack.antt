@@ -3,7 +3,7 @@ use Rattle.std.proofs.Common.{◌≡◌, ℕ, zero, suc, Bool, true, false, List
 use Rattle.std.specs.Prelude.{◌≢◌, Option, Some, None}
 use Rattle.bx_common.specs.declared.base.Base.{Base}
 use Rattle.bx_keys.specs.declared.key.Key.{Key}
-use Rattle.bx_keys.specs.declared.key.Key.TheVariants.{Undo, Redo}
+use Rattle.bx_keys.specs.declared.key.Key.TheVariants.{UndoEdit, RedoEdit}
 use Rattle.bx_store.specs.declared.store.StoreFault.{StoreFault}
 use Rattle.bx_text.specs.declared.change.Change.{Change}
 use Rattle.bx_text.specs.Edits.{Edit, Edited, redone, redone_in, undone, undone_in, redone_times, undone_times}
@@ -145,16 +145,16 @@ stepped key e content place =
     as_left key (record (cleared e) { content = content; place = place; mark = None; soft = softness.Off; search_state = Off; prompt = prompts.Off; changed = true })
 
 undo_once : (d : Data) (e : Editor) (text : List ℕ) (edit : Edit) (past future : List Edit) → DoesWork e
-    → after_key d None (record e { content = version text (edit ∷ past) future }) Undo
-    ≡ stepped Undo e (version edit.before.text past (edit ∷ future)) edit.before.place
+    → after_key d None (record e { content = version text (edit ∷ past) future }) UndoEdit
+    ≡ stepped UndoEdit e (version edit.before.text past (edit ∷ future)) edit.before.place
 undo_once d e text edit past future works =
-    ended-done d None (record e { content = version text (edit ∷ past) future }) Undo works.settled refl refl refl works.other works.writes
+    ended-done d None (record e { content = version text (edit ∷ past) future }) UndoEdit works.settled refl refl refl works.other works.writes
 
 redo_once : (d : Data) (e : Editor) (text : List ℕ) (edit : Edit) (past future : List Edit) → DoesWork e
-    → after_key d None (record e { content = version text past (edit ∷ future) }) Redo
-    ≡ stepped Redo e (version edit.after.text (edit ∷ past) future) edit.after.place
+    → after_key d None (record e { content = version text past (edit ∷ future) }) RedoEdit
+    ≡ stepped RedoEdit e (version edit.after.text (edit ∷ past) future) edit.after.place
 redo_once d e text edit past future works =
-    ended-done d None (record e { content = version text past (edit ∷ future) }) Redo works.settled refl refl refl works.other works.writes
+    ended-done d None (record e { content = version text past (edit ∷ future) }) RedoEdit works.settled refl refl refl works.other works.writes
 
 works_on : (key : Key) (e : Editor) (content : Edited) (place : ℕ) → DoesWork e → DoesWork (stepped key e content place)
 works_on key e content place works = record { settled = works.settled; other = λ over. cc over; writes = works.writes }
@@ -164,65 +164,65 @@ none_behind [] = refl
 none_behind (edit ∷ past) = refl
 
 all_back : (d : Data) (first : List ℕ) (e : Editor) (text : List ℕ) (past future : List Edit) → DoesWork e → IsPastOf first text past
-    → let now : Editor = record e { content = version text past future } in IsBackAt first now (after_keys d None now (replicate (length past) Undo))
+    → let now : Editor = record e { content = version text past future } in IsBackAt first now (after_keys d None now (replicate (length past) UndoEdit))
 all_back d first e text [] future works h = record { text_is = h; past_is = refl; place_is = refl; mark_is = refl }
 all_back d first e text (edit ∷ past) future works h =
     let now : Editor = record e { content = version text (edit ∷ past) future } in
-    let taken_back = stepped Undo e (version edit.before.text past (edit ∷ future)) edit.before.place in
+    let taken_back = stepped UndoEdit e (version edit.before.text past (edit ∷ future)) edit.before.place in
     let back =
     all_back d first taken_back edit.before.text past (edit ∷ future)
-    (works_on Undo e (version edit.before.text past (edit ∷ future)) edit.before.place works) h.1 in
-    subst (λ new. IsBackAt first now (after_keys d None new (replicate (length past) Undo))) (sym (undo_once d e text edit past future works))
+    (works_on UndoEdit e (version edit.before.text past (edit ∷ future)) edit.before.place works) h.1 in
+    subst (λ new. IsBackAt first now (after_keys d None new (replicate (length past) UndoEdit))) (sym (undo_once d e text edit past future works))
     (record { text_is = back.text_is; past_is = back.past_is; place_is = back.place_is; mark_is = back.mark_is ∙ none_behind past })
 
 redo_back : (d : Data) (first : List ℕ) (e : Editor) (text : List ℕ) (past future : List Edit) → DoesWork e → IsPastOf first text past → past ≢ []
-    → (after_keys d None (record e { content = version text past future }) (Undo ∷ Redo ∷ [])).content ≡ version text past future
+    → (after_keys d None (record e { content = version text past future }) (UndoEdit ∷ RedoEdit ∷ [])).content ≡ version text past future
 redo_back d first e text [] future works h some = absurd (some refl)
 redo_back d first e text (edit ∷ past) future works h some =
     let undone = version edit.before.text past (edit ∷ future) in
-    ap (λ new. (after_key d None new Redo).content) (undo_once d e text edit past future works)
+    ap (λ new. (after_key d None new RedoEdit).content) (undo_once d e text edit past future works)
     ∙ ap (λ (new : Editor). new.content)
-    (redo_once d (stepped Undo e undone edit.before.place) edit.before.text edit past future (works_on Undo e undone edit.before.place works))
+    (redo_once d (stepped UndoEdit e undone edit.before.place) edit.before.text edit past future (works_on UndoEdit e undone edit.before.place works))
     ∙ ap (λ t. version t (edit ∷ past) future) h.0
 
 undo_back : (d : Data) (e : Editor) (text : List ℕ) (past future : List Edit) → DoesWork e → IsFutureOf text future → future ≢ []
-    → (after_keys d None (record e { content = version text past future }) (Redo ∷ Undo ∷ [])).content ≡ version text past future
+    → (after_keys d None (record e { content = version text past future }) (RedoEdit ∷ UndoEdit ∷ [])).content ≡ version text past future
 undo_back d e text past [] works h some = absurd (some refl)
 undo_back d e text past (edit ∷ future) works h some =
     let redone = version edit.after.text (edit ∷ past) future in
-    ap (λ new. (after_key d None new Undo).content) (redo_once d e text edit past future works)
+    ap (λ new. (after_key d None new UndoEdit).content) (redo_once d e text edit past future works)
     ∙ ap (λ (new : Editor). new.content)
-    (undo_once d (stepped Redo e redone edit.after.place) edit.after.text edit past future (works_on Redo e redone edit.after.place works))
+    (undo_once d (stepped RedoEdit e redone edit.after.place) edit.after.text edit past future (works_on RedoEdit e redone edit.after.place works))
     ∙ ap (λ t. version t past (edit ∷ future)) h.0
 
 -- ---- place and mark behind both
 
 redo_place : (d : Data) (e : Editor) (text : List ℕ) (past future : List Edit) → DoesWork e → (edit : Edit) (rest : List Edit) → past ≡ edit ∷ rest
-    → IsUnmarkedAt edit.after.place (after_keys d None (record e { content = version text past future }) (Undo ∷ Redo ∷ []))
+    → IsUnmarkedAt edit.after.place (after_keys d None (record e { content = version text past future }) (UndoEdit ∷ RedoEdit ∷ []))
 redo_place d e text [] future works edit rest is = absurd (cc)
 redo_place d e text (latest ∷ past) future works edit rest is =
     let same : latest ≡ edit = cc in
     let undone = version latest.before.text past (latest ∷ future) in
     let again =
-    redo_once d (stepped Undo e undone latest.before.place) latest.before.text latest past future (works_on Undo e undone latest.before.place works) in
-    let there : IsUnmarkedAt latest.after.place (after_keys d None (record e { content = version text (latest ∷ past) future }) (Undo ∷ Redo ∷ [])) =
-    subst (λ new. IsUnmarkedAt latest.after.place (after_key d None new Redo)) (sym (undo_once d e text latest past future works))
+    redo_once d (stepped UndoEdit e undone latest.before.place) latest.before.text latest past future (works_on UndoEdit e undone latest.before.place works) in
+    let there : IsUnmarkedAt latest.after.place (after_keys d None (record e { content = version text (latest ∷ past) future }) (UndoEdit ∷ RedoEdit ∷ [])) =
+    subst (λ new. IsUnmarkedAt latest.after.place (after_key d None new RedoEdit)) (sym (undo_once d e text latest past future works))
     (subst (IsUnmarkedAt latest.after.place) (sym again) (record { place_is = refl; mark_is = refl })) in
-    subst (λ (x : Edit). IsUnmarkedAt x.after.place (after_keys d None (record e { content = version text (latest ∷ past) future }) (Undo ∷ Redo ∷ [])))
+    subst (λ (x : Edit). IsUnmarkedAt x.after.place (after_keys d None (record e { content = version text (latest ∷ past) future }) (UndoEdit ∷ RedoEdit ∷ [])))
     same there
 
 undo_place : (d : Data) (e : Editor) (text : List ℕ) (past future : List Edit) → DoesWork e → (edit : Edit) (rest : List Edit) → future ≡ edit ∷ rest
-    → IsUnmarkedAt edit.before.place (after_keys d None (record e { content = version text past future }) (Redo ∷ Undo ∷ []))
+    → IsUnmarkedAt edit.before.place (after_keys d None (record e { content = version text past future }) (RedoEdit ∷ UndoEdit ∷ []))
 undo_place d e text past [] works edit rest is = absurd (cc)
 undo_place d e text past (next ∷ future) works edit rest is =
     let same : next ≡ edit = cc in
     let redone = version next.after.text (next ∷ past) future in
     let again =
-    undo_once d (stepped Redo e redone next.after.place) next.after.text next past future (works_on Redo e redone next.after.place works) in
-    let there : IsUnmarkedAt next.before.place (after_keys d None (record e { content = version text past (next ∷ future) }) (Redo ∷ Undo ∷ [])) =
-    subst (λ new. IsUnmarkedAt next.before.place (after_key d None new Undo)) (sym (redo_once d e text next past future works))
+    undo_once d (stepped RedoEdit e redone next.after.place) next.after.text next past future (works_on RedoEdit e redone next.after.place works) in
+    let there : IsUnmarkedAt next.before.place (after_keys d None (record e { content = version text past (next ∷ future) }) (RedoEdit ∷ UndoEdit ∷ [])) =
+    subst (λ new. IsUnmarkedAt next.before.place (after_key d None new UndoEdit)) (sym (redo_once d e text next past future works))
     (subst (IsUnmarkedAt next.before.place) (sym again) (record { place_is = refl; mark_is = refl })) in
-    subst (λ (x : Edit). IsUnmarkedAt x.before.place (after_keys d None (record e { content = version text past (next ∷ future) }) (Redo ∷ Undo ∷ [])))
+    subst (λ (x : Edit). IsUnmarkedAt x.before.place (after_keys d None (record e { content = version text past (next ∷ future) }) (RedoEdit ∷ UndoEdit ∷ [])))
     same there
 
 pub undo_gives_back : UndoGivesBack

@@ -14,9 +14,9 @@ use Rattle.bx_common.specs.Characters.{largest_text}
 use Rattle.bx_common.specs.declared.base.Base.TheVariants.{Auto}
 use Rattle.bx_keys.specs.declared.key.Key.{Key}
 use Rattle.bx_keys.specs.declared.key.Key.TheVariants.{Insert, Erase, Delete, Back, Forward, Up, Down, Right, Left, RowHome, RowEnd, PageUp, PageDown}
-use Rattle.bx_keys.specs.declared.key.Key.TheVariants.{Quit, Undo, Redo, Copy, Cut, Put, Find, FindBack, WordLeft, WordRight, TextStart, TextEnd}
+use Rattle.bx_keys.specs.declared.key.Key.TheVariants.{Quit, UndoEdit, RedoEdit, Copy, Cut, Put, Find, FindBack, WordLeft, WordRight, TextStart, TextEnd}
 use Rattle.bx_keys.specs.declared.key.Key.TheVariants.{EraseWord, DeleteWord, ErasePoint, NewLine, FindNext, LineUp, LineDown, PageBack, PageOn}
-use Rattle.bx_keys.specs.declared.key.Key.TheVariants.{UndoRun, RedoRun, Replace, Point, Drag, FindPrevious, ScrollBack, ScrollOn, SelectAll}
+use Rattle.bx_keys.specs.declared.key.Key.TheVariants.{Undo, Redo, Replace, Point, Drag, FindPrevious, ScrollBack, ScrollOn, SelectAll}
 use Rattle.bx_view.specs.Top.{pointed_at}
 use Rattle.bx_editor.specs.declared.message.Message.TheVariants.{TextFull}
 use Rattle.bx_editor.specs.undo_groups.Groups.{goes_on, kind_of}
@@ -187,7 +187,7 @@ abbrev one_edit : List Key
 one_edit = letters (codes "x")
 
 abbrev one_undone : List Key
-one_undone = Insert 0x78 ∷ Undo ∷ []
+one_undone = Insert 0x78 ∷ UndoEdit ∷ []
 
 pub refusable-change-texts : RefusableChangeTexts
 unfolding unicode_segmentation unicode_width digits unicode_normalization ucd_case
@@ -204,8 +204,8 @@ refusable-change-texts RowHome is = moved to_the_end RowHome refl refl refl
 refusable-change-texts RowEnd is = moved [] RowEnd refl refl refl
 refusable-change-texts PageUp is = moved to_the_end PageUp refl refl refl
 refusable-change-texts PageDown is = moved [] PageDown refl refl refl
-refusable-change-texts Undo is = edited one_edit Undo refl refl
-refusable-change-texts Redo is = edited one_undone Redo refl refl
+refusable-change-texts UndoEdit is = edited one_edit UndoEdit refl refl
+refusable-change-texts RedoEdit is = edited one_undone RedoEdit refl refl
 refusable-change-texts Copy is = copied [] Copy refl refl
 refusable-change-texts Cut is = edited [] Cut refl refl
 refusable-change-texts Put is = edited (Copy ∷ []) Put refl refl
@@ -224,8 +224,8 @@ refusable-change-texts LineUp is = moved to_the_end LineUp refl refl refl
 refusable-change-texts LineDown is = moved [] LineDown refl refl refl
 refusable-change-texts PageBack is = moved to_the_end PageBack refl refl refl
 refusable-change-texts PageOn is = moved [] PageOn refl refl refl
-refusable-change-texts UndoRun is = edited one_edit UndoRun refl refl
-refusable-change-texts RedoRun is = edited one_undone RedoRun refl refl
+refusable-change-texts Undo is = edited one_edit Undo refl refl
+refusable-change-texts Redo is = edited one_undone Redo refl refl
 refusable-change-texts Replace is = edited a_shown Replace refl refl
 refusable-change-texts SelectAll is = moved [] SelectAll refl refl refl
 refusable-change-texts FindPrevious is = moved b_found FindPrevious refl refl refl

@@ -1,9 +1,8 @@
 -- The numbers that the status row tells, typed as an answer, lead to the place where the cursor is.
 use Rattle.std.proofs.Common.{◌≡◌, ℕ, ◌+◌, ◌^◌, ◌<◌, ◌≤◌, Bool, true, false, nat_lt, List, [], ◌∷◌, ◌++◌, length, map, append_assoc, append-nil}
 use Rattle.std.proofs.Common.{length-append, refl, sym, ap, ap₂, subst, ◌∙◌, arith, if◌then◌else◌}
-use Rattle.std.specs.Prelude.{◌≢◌, ◌==◌, chars, codes, decimal, encode_utf8, IsUtf8, None}
+use Rattle.std.specs.Prelude.{◌≢◌, ◌==◌, chars, codes, decimal, IsUtf8, None}
 use Rattle.std.proofs.lemmas.Bool.Decides.{nat_tests}
-use Rattle.std.proofs.lemmas.Str.{encode_ascii}
 use Rattle.bx_common.specs.Characters.{largest_text}
 use Rattle.bx_common.specs.declared.base.Base.TheVariants.{Auto}
 use Rattle.bx_editor.specs.declared.questions.answers.Prompt.TheVariants.{Off, Line, Overwrite}
@@ -32,7 +31,8 @@ use Rattle.bx_editor.specs.Status.{message_part, told_at_place}
 use Rattle.bx_editor_laws.proofs.AskingKeys.{line-is}
 use Rattle.bx_editor_laws.proofs.FewNumbers.{few-numbers}
 use Rattle.bx_editor_laws.proofs.LineEnd.{typed-at-end}
-use Rattle.bx_editor_laws.proofs.QuestionKeys.{Leaves, asked-key, leaves-trans, left-leaves, untouched}
+use Rattle.bx_editor_laws.proofs.QuestionKeys.{Leaves, leaves-trans, left-leaves, untouched}
+use Rattle.bx_editor_laws.proofs.QuestionAnswers.{asked-key}
 use Rattle.bx_editor_laws.proofs.ToldNumbers.{AreLetters, IsLetter, letters-append, letters-ascii, letters-chars, told-asked, told-letters, told-short}
 
 -- ---- the answer

@@ -8,8 +8,6 @@ use Rattle.std.proofs.lemmas.Str.{chars-nil}
 use Rattle.unicode_segmentation.specs.Grapheme.{graphemes}
 use Rattle.bx_common.specs.Characters.{are_ascii_printable}
 use Rattle.bx_common.specs.declared.base.Base.{Base}
-use Rattle.bx_editor.specs.declared.questions.answers.Prompt.{Prompt}
-use Rattle.bx_editor.specs.declared.questions.answers.Prompt.TheVariants as prompts
 use Rattle.bx_editor.specs.questions.Told.{told_text}
 use Rattle.bx_editor.proofs.questions_lemmas.Printable as text_proofs
 use Rattle.bx_keys.specs.declared.key.Key.TheVariants.{Tell}
@@ -25,14 +23,8 @@ use Rattle.bx_view.specs.Numbers.{body_at, start_at}
 use Rattle.bx_view.specs.declared.moves.Logical.TheVariants.{Forward}
 use Rattle.bx_document.specs.PlaceLevel.{level_from, place_level}
 use Rattle.bx_document.proofs.PlaceLevels.{units_have}
-use Rattle.bx_editor.specs.declared.message.Message.TheVariants.{Told}
-use Rattle.bx_editor.specs.declared.search_state.SearchState.{SearchState}
-use Rattle.bx_editor.specs.declared.search_state.SearchState.TheVariants.{Off, Begun, Typed, WithBegun, WithTyped, Replacing}
 use Rattle.bx_editor_laws.specs.AskingLaws.{IsUntouched, TellShows, TellsWhatStands}
-use Rattle.bx_editor.specs.Editor.{Editor, cleared, rows}
-use Rattle.bx_editor.specs.Before.{Before, before}
-use Rattle.bx_editor.specs.Keys.{after_any, as_left}
-use Rattle.bx_editor.specs.Region.{aged}
+use Rattle.bx_editor.specs.Editor.{Editor, rows}
 use Rattle.bx_editor.specs.Status.{paragraph_number, status_line, status_text, unit_number, told_at_place}
 use Rattle.bx_editor_laws.proofs.KeyEnds.{ended-key}
 use Rattle.bx_editor_laws.proofs.UnitBytes.{is-inside, unit-bytes, unit-step}

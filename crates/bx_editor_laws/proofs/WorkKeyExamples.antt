@@ -7,7 +7,7 @@ use Rattle.unicode_normalization.proofs.Computing.{unicode_normalization}
 use Rattle.unicode_segmentation.proofs.Computing.{unicode_segmentation}
 use Rattle.unicode_width.proofs.Computing.{unicode_width}
 use Rattle.bx_keys.specs.declared.key.Key.{Key}
-use Rattle.bx_keys.specs.declared.key.Key.TheVariants.{Insert, Down, Forward, Find, Left, Mark, Repaint, RowEnd, Size, TextEnd, Undo, Up}
+use Rattle.bx_keys.specs.declared.key.Key.TheVariants.{Insert, Down, Forward, Find, Left, Mark, Repaint, RowEnd, Size, TextEnd, UndoEdit, Up}
 use Rattle.bx_keys.specs.declared.key.Key.TheVariants.{EraseWord, DeleteWord, ErasePoint, NewLine, FindNext, Cancel, LineUp, LineDown, PageBack, PageOn}
 use Rattle.bx_editor.specs.declared.message.Message.{Message}
 use Rattle.bx_view.specs.declared.moves.Goal.{Goal}
@@ -42,7 +42,7 @@ pub two_words_back : edited (codes "ab, cd") (TextEnd ∷ EraseWord ∷ EraseWor
 unfolding unicode_segmentation unicode_width digits
 two_words_back = refl
 
-pub words_back_come_again : edited (codes "ab, cd") (TextEnd ∷ EraseWord ∷ EraseWord ∷ Undo ∷ Undo ∷ []) ≡ (codes "ab, cd", 6)
+pub words_back_come_again : edited (codes "ab, cd") (TextEnd ∷ EraseWord ∷ EraseWord ∷ UndoEdit ∷ UndoEdit ∷ []) ≡ (codes "ab, cd", 6)
 unfolding unicode_segmentation unicode_width digits
 words_back_come_again = refl
 
@@ -114,7 +114,7 @@ pub lf_where_the_first_is_cr : edited (codes "b\rc\r\n") (NewLine ∷ []) ≡ (c
 unfolding unicode_segmentation unicode_width digits
 lf_where_the_first_is_cr = refl
 
-pub cr_lf_is_one_edit : edited (codes "a\r\nb") (TextEnd ∷ NewLine ∷ Undo ∷ []) ≡ (codes "a\r\nb", 4)
+pub cr_lf_is_one_edit : edited (codes "a\r\nb") (TextEnd ∷ NewLine ∷ UndoEdit ∷ []) ≡ (codes "a\r\nb", 4)
 unfolding unicode_segmentation unicode_width digits unicode_normalization ucd_case
 cr_lf_is_one_edit = refl
 

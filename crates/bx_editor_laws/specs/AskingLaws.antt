@@ -20,7 +20,7 @@ use Rattle.bx_editor.specs.declared.questions.answers.Prompt.TheVariants.{Off, O
 use Rattle.bx_editor.specs.questions.Names.{coded, asks_code, closing, named}
 use Rattle.bx_editor.specs.questions.Told.{character_text, others_text}
 use Rattle.bx_keys.specs.declared.key.Key.{Key}
-use Rattle.bx_keys.specs.declared.key.Key.TheVariants.{Insert, NewLine, Erase, ErasePoint, Delete, Put, UndoRun, GoTo, Name, Tell}
+use Rattle.bx_keys.specs.declared.key.Key.TheVariants.{Insert, NewLine, Erase, ErasePoint, Delete, Put, Undo, GoTo, Name, Tell}
 use Rattle.bx_store.specs.declared.store.StoreFault.{StoreFault}
 use Rattle.bx_text.specs.Changes.{IsRange}
 use Rattle.bx_rows.specs.RowPicture.{Glyph, letter_glyphs}
@@ -123,14 +123,14 @@ ToldNumbersLeadBack = (d : Data) (e : Editor) → HasTextPlace d e → LeadsToIt
 
 -- ---- what an answer puts in
 
--- Where Name was pressed outside a paste, one UndoRun takes back all that the answer put in, whatever was typed before it while
+-- Where Name was pressed outside a paste, one Undo takes back all that the answer put in, whatever was typed before it while
 -- the question was on.
 abbrev pub AnswerIsARun : Type 0
 AnswerIsARun =
     (d : Data) (e : Editor) (typed : List (Key × Option StoreFault)) (key : Key) → e.pasted ≡ None → let asked = after_key d None e Name in
     StaysAsked d asked typed → types key ≡ true
     → let answered = after_typing d asked typed in length e.content.past < length (after_key d None answered key).content.past
-    → IsBackBefore e (after_keys d None answered (key ∷ UndoRun ∷ []))
+    → IsBackBefore e (after_keys d None answered (key ∷ Undo ∷ []))
 
 -- no paste is under way, the question is not whether to overwrite, and the text is not only looked at
 pub record CanAsk (e : Editor) : Type 0 where

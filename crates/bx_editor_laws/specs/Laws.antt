@@ -4,7 +4,7 @@ use Rattle.std.specs.Prelude.{◌≡◌, ◌≢◌, ◌⊎◌, ℕ, ◌+◌, ◌
 use Rattle.bx_common.specs.Characters.{largest_text}
 use Rattle.bx_common.specs.declared.base.Base.{Base}
 use Rattle.bx_keys.specs.declared.key.Key.{Key}
-use Rattle.bx_keys.specs.declared.key.Key.TheVariants.{Quit, Undo, Redo, Mark, Copy, Cut, Put, Find, FindBack, FindNext, FindPrevious, Replace, TextStart, TextEnd, Cancel}
+use Rattle.bx_keys.specs.declared.key.Key.TheVariants.{Quit, UndoEdit, RedoEdit, Mark, Copy, Cut, Put, Find, FindBack, FindNext, FindPrevious, Replace, TextStart, TextEnd, Cancel}
 use Rattle.bx_store.specs.declared.store.StoreFault.{StoreFault}
 use Rattle.bx_text.specs.Edits.{Edit}
 use Rattle.bx_ucd.specs.Data.{Data}
@@ -40,9 +40,9 @@ abbrev pub after_typing : Data → Editor → List (Key × Option StoreFault) �
 after_typing d e [] = e
 after_typing d e (key ∷ typed) = after_typing d (after_key d key.1 e key.0) typed
 
--- Undo, once for each edit of the past
+-- UndoEdit, once for each edit of the past
 abbrev pub after_all_undone : Data → Editor → Editor
-after_all_undone d e = after_keys d None e (replicate (length e.content.past) Undo)
+after_all_undone d e = after_keys d None e (replicate (length e.content.past) UndoEdit)
 
 -- the place before the oldest of some edits, the latest first; the given place, if there is no edit
 abbrev pub oldest_place : ℕ → List Edit → ℕ
@@ -63,7 +63,7 @@ pub record IsBackAt (text : List ℕ) (e new : Editor) : Type 0 where
   pub mark_is : new.mark ≡ mark_behind e.mark e.content.past
 
 -- undoing everything restores the opened text, whatever was typed, unless a paste is under way, or the question is whether to overwrite,
--- which the first Undo only ends
+-- which the first UndoEdit only ends
 abbrev pub UndoGivesBack : Type 0
 UndoGivesBack =
     (d : Data) (text : List ℕ) (height width : ℕ) (base : Base) (typed : List (Key × Option StoreFault))
@@ -75,15 +75,15 @@ pub record IsUnmarkedAt (place : ℕ) (e : Editor) : Type 0 where
   pub place_is : e.place ≡ place
   pub mark_is : e.mark ≡ None
 
--- Undo then Redo leaves text, past and future unchanged, if there is an edit to undo, and the cursor at its place after that
--- edit. Redo then Undo leaves them unchanged, if there is an edit to redo, and the cursor at its place before that edit.
+-- UndoEdit then RedoEdit leaves text, past and future unchanged, if there is an edit to undo, and the cursor at its place after that
+-- edit. RedoEdit then UndoEdit leaves them unchanged, if there is an edit to redo, and the cursor at its place before that edit.
 pub record AreMirrored (d : Data) (e : Editor) : Type 0 where
-  pub redo : e.content.past ≢ [] → (after_keys d None e (Undo ∷ Redo ∷ [])).content ≡ e.content
+  pub redo : e.content.past ≢ [] → (after_keys d None e (UndoEdit ∷ RedoEdit ∷ [])).content ≡ e.content
   pub redo_place : (edit : Edit) (past : List Edit) → e.content.past ≡ edit ∷ past
-      → IsUnmarkedAt edit.after.place (after_keys d None e (Undo ∷ Redo ∷ []))
-  pub undo : e.content.future ≢ [] → (after_keys d None e (Redo ∷ Undo ∷ [])).content ≡ e.content
+      → IsUnmarkedAt edit.after.place (after_keys d None e (UndoEdit ∷ RedoEdit ∷ []))
+  pub undo : e.content.future ≢ [] → (after_keys d None e (RedoEdit ∷ UndoEdit ∷ [])).content ≡ e.content
   pub undo_place : (edit : Edit) (future : List Edit) → e.content.future ≡ edit ∷ future
-      → IsUnmarkedAt edit.before.place (after_keys d None e (Redo ∷ Undo ∷ []))
+      → IsUnmarkedAt edit.before.place (after_keys d None e (RedoEdit ∷ UndoEdit ∷ []))
 
 -- undo and redo mirror each other after anything that was typed over an opened text, unless a paste is under way, or the question is
 -- whether to overwrite

@@ -12,3 +12,5 @@ pub mod StoredLaws
 pub mod RefusalLaws
 pub mod InputLaws
 pub mod ViewLaws
+pub mod ScrollLaws
+pub mod LineTextLaws

@@ -3,7 +3,7 @@ use Rattle.std.specs.Prelude.{◌≡◌, ◌≢◌, ◌↔◌, ℕ, ◌+◌, ◌
 use Rattle.std.specs.Prelude.{Option, None, if◌then◌else◌}
 use Rattle.bx_common.specs.declared.base.Base.{Base}
 use Rattle.bx_keys.specs.declared.key.Key.{Key}
-use Rattle.bx_keys.specs.declared.key.Key.TheVariants.{Insert, UndoRun}
+use Rattle.bx_keys.specs.declared.key.Key.TheVariants.{Insert, Undo}
 use Rattle.bx_store.specs.declared.store.StoreFault.{StoreFault}
 use Rattle.bx_ucd.specs.Data.{Data}
 use Rattle.bx_editor.specs.declared.questions.answers.Prompt.TheVariants as prompts
@@ -47,13 +47,13 @@ PastesAreAlone =
 
 -- ---- what a paste puts in
 
--- One UndoRun takes back all that a paste put in, and puts back the selection that gave way to it. Where no paste was under way, one of
+-- One Undo takes back all that a paste put in, and puts back the selection that gave way to it. Where no paste was under way, one of
 -- some characters puts them in if there was room for them.
 pub record TakesPasteBack (d : Data) (e : Editor) (cs : List ℕ) : Type 0 where
   pub back : length e.content.past < length (after_paste d e cs).content.past
-      → IsBackBefore e (after_key d None (after_paste d e cs) UndoRun)
+      → IsBackBefore e (after_key d None (after_paste d e cs) Undo)
   pub with_room : e.pasted ≡ None → cs ≢ [] → has_room e (written d e.content.text cs) ≡ true
-      → IsBackBefore e (after_key d None (after_paste d e cs) UndoRun)
+      → IsBackBefore e (after_key d None (after_paste d e cs) Undo)
 
 -- so it is outside a search and a question, where the text is not only looked at
 abbrev pub PasteComesBack : Type 0

@@ -12,7 +12,7 @@ use Rattle.bx_find.specs.Matches.{is_attached, match_end}
 use Rattle.bx_find.specs.declared.letters.Reading.TheVariants.{Close}
 use Rattle.bx_document.specs.Swapped.{behind_character, last_stop, swapped}
 use Rattle.bx_keys.specs.declared.key.Key.{Key}
-use Rattle.bx_keys.specs.declared.key.Key.TheVariants.{Find, Replace, UndoRun}
+use Rattle.bx_keys.specs.declared.key.Key.TheVariants.{Find, Replace, Undo}
 use Rattle.bx_store.specs.declared.store.StoreFault.{StoreFault}
 use Rattle.bx_view.specs.Moves.{place_at}
 use Rattle.bx_editor.specs.declared.search_state.SearchPurpose.TheVariants as purposes
@@ -170,11 +170,11 @@ ReplaceReplacesAll = (d : Data) (e : Editor) → IsShowing d e → ReplacesMatch
 abbrev pub DoesReplace : Key → Type 0
 DoesReplace key = (is_enter key ≡ true) ⊎ (key ≡ Replace)
 
--- outside a paste, where the text is not only looked at, one UndoRun takes back all that a key replaced
+-- outside a paste, where the text is not only looked at, one Undo takes back all that a key replaced
 abbrev pub ReplacedComesBack : Type 0
 ReplacedComesBack =
     (d : Data) (e : Editor) (key : Key) → e.prompt ≡ prompts.Off → e.search_state ≡ Replacing → e.pasted ≡ None → e.read_only ≡ false → DoesReplace key
-    → length e.content.past < length (after_key d None e key).content.past → IsBackBefore e (after_keys d None e (key ∷ UndoRun ∷ []))
+    → length e.content.past < length (after_key d None e key).content.past → IsBackBefore e (after_keys d None e (key ∷ Undo ∷ []))
 
 -- ---- replacing by the same letters
 

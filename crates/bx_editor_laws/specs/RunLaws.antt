@@ -4,7 +4,7 @@ use Rattle.std.specs.Prelude.{All, Option, None, is_none, is_some, if◌then◌e
 use Rattle.bx_common.specs.Characters.{largest_text}
 use Rattle.bx_common.specs.declared.base.Base.{Base}
 use Rattle.bx_keys.specs.declared.key.Key.{Key}
-use Rattle.bx_keys.specs.declared.key.Key.TheVariants.{Insert, Redo, RedoRun, Undo, UndoRun}
+use Rattle.bx_keys.specs.declared.key.Key.TheVariants.{Insert, RedoEdit, Redo, UndoEdit, Undo}
 use Rattle.bx_store.specs.declared.store.StoreFault.{StoreFault}
 use Rattle.bx_text.specs.Edits.{Edit}
 use Rattle.bx_editor.specs.undo_groups.Laws.{BeginsAt, EndsAt, redone, undone}
@@ -40,12 +40,12 @@ pub record IsManySteps (d : Data) (e : Editor) (key one : Key) (n : ℕ) (edits 
   pub some : edits ≢ [] → 0 < n
   pub none : edits ≡ [] → after_key d None e key ≡ after_key d None e one
 
--- UndoRun and RedoRun step so over an undo group
+-- Undo and Redo step so over an undo group
 pub record RunsAreSteps (d : Data) (e : Editor) : Type 0 where
-  pub undo : IsManySteps d e UndoRun Undo (undos e) e.content.past
-  pub redo : IsManySteps d e RedoRun Redo (redos e) e.content.future
+  pub undo : IsManySteps d e Undo UndoEdit (undos e) e.content.past
+  pub redo : IsManySteps d e Redo RedoEdit (redos e) e.content.future
 
--- Outside a paste UndoRun does what `undos` presses of Undo do, RedoRun what `redos` presses of Redo do, but for what counts as changed.
+-- Outside a paste Undo does what `undos` presses of UndoEdit do, Redo what `redos` presses of RedoEdit do, but for what counts as changed.
 -- Where the question is whether to overwrite a key only ends that, and a text that is only looked at has nothing to undo.
 abbrev pub RunKeysAreSteps : Type 0
 RunKeysAreSteps = (d : Data) (e : Editor) → e.pasted ≡ None → e.prompt ≢ prompts.Overwrite → e.read_only ≡ false → RunsAreSteps d e
@@ -56,19 +56,19 @@ RunKeysAreSteps = (d : Data) (e : Editor) → e.pasted ≡ None → e.prompt ≢
 abbrev pub all_edits : Editor → ℕ
 all_edits e = length e.content.past + length e.content.future
 
--- UndoRun then RedoRun leaves text, past and future unchanged where an undo group ends, and the cursor at its place after the
--- latest edit. RedoRun then UndoRun leaves them unchanged where an undo group begins, and the cursor at its place before the next
+-- Undo then Redo leaves text, past and future unchanged where an undo group ends, and the cursor at its place after the
+-- latest edit. Redo then Undo leaves them unchanged where an undo group begins, and the cursor at its place before the next
 -- edit.
 pub record RunsAreMirrored (d : Data) (e : Editor) : Type 0 where
-  pub redo : EndsAt e.undo_groups (all_edits e) (length e.content.past) → (after_keys d None e (UndoRun ∷ RedoRun ∷ [])).content ≡ e.content
+  pub redo : EndsAt e.undo_groups (all_edits e) (length e.content.past) → (after_keys d None e (Undo ∷ Redo ∷ [])).content ≡ e.content
   pub redo_place : EndsAt e.undo_groups (all_edits e) (length e.content.past) → (edit : Edit) (past : List Edit) → e.content.past ≡ edit ∷ past
-      → IsUnmarkedAt edit.after.place (after_keys d None e (UndoRun ∷ RedoRun ∷ []))
-  pub undo : BeginsAt e.undo_groups (all_edits e) (length e.content.past) → (after_keys d None e (RedoRun ∷ UndoRun ∷ [])).content ≡ e.content
+      → IsUnmarkedAt edit.after.place (after_keys d None e (Undo ∷ Redo ∷ []))
+  pub undo : BeginsAt e.undo_groups (all_edits e) (length e.content.past) → (after_keys d None e (Redo ∷ Undo ∷ [])).content ≡ e.content
   pub undo_place : BeginsAt e.undo_groups (all_edits e) (length e.content.past) → (edit : Edit) (future : List Edit)
       → e.content.future ≡ edit ∷ future
-      → IsUnmarkedAt edit.before.place (after_keys d None e (RedoRun ∷ UndoRun ∷ []))
+      → IsUnmarkedAt edit.before.place (after_keys d None e (Redo ∷ Undo ∷ []))
 
--- UndoRun and RedoRun mirror each other so after anything that was typed over an opened text, unless a paste is under way, or the
+-- Undo and Redo mirror each other so after anything that was typed over an opened text, unless a paste is under way, or the
 -- question is whether to overwrite
 abbrev pub RedoRunMirrorsUndoRun : Type 0
 RedoRunMirrorsUndoRun =
@@ -99,13 +99,13 @@ abbrev pub AreTyped : Editor → List ℕ → Type 0
 AreTyped e cs = All (λ c. ((c == 0x9) && not (e.tab_width == 0)) ≡ false) cs
 
 -- outside a search, a question and a paste, where the text is not only looked at, and where the first letter goes on with no undo group,
--- one UndoRun takes back a typed word and the blanks after it, if there was room for them, and no tab among them becomes spaces
+-- one Undo takes back a typed word and the blanks after it, if there was room for them, and no tab among them becomes spaces
 abbrev pub WordIsARun : Type 0
 WordIsARun =
     (d : Data) (e : Editor) (letters blanks : List ℕ) → e.prompt ≡ prompts.Off → e.search_state ≡ Off → e.pasted ≡ None → e.typing ≡ typings.Off
     → e.read_only ≡ false → IsWord d letters blanks → AreTyped e (letters ++ blanks)
     → length e.content.text + length (encode_utf8_all (letters ++ blanks)) ≤ largest_text
-    → IsBackBefore e (after_key d None (after_keys d None e (map Insert (letters ++ blanks))) UndoRun)
+    → IsBackBefore e (after_key d None (after_keys d None e (map Insert (letters ++ blanks))) Undo)
 
 -- ---- what counts as changed
 

@@ -7,7 +7,7 @@ use Rattle.bx_keys.specs.declared.key.Key.TheVariants.{Insert, Erase, Delete, Ba
 use Rattle.bx_keys.specs.declared.key.Key.TheVariants.{PageUp, PageDown, Put}
 use Rattle.bx_keys.specs.declared.key.Key.TheVariants.{WordLeft, WordRight, TextStart, TextEnd, Find, FindBack, FindNext, FindPrevious, Replace}
 use Rattle.bx_keys.specs.declared.key.Key.TheVariants.{EraseWord, DeleteWord, ErasePoint, NewLine}
-use Rattle.bx_keys.specs.declared.key.Key.TheVariants.{Cancel, LineUp, LineDown, PageBack, PageOn, Point, Select, UndoRun}
+use Rattle.bx_keys.specs.declared.key.Key.TheVariants.{Cancel, LineUp, LineDown, PageBack, PageOn, Point, Select, Undo}
 use Rattle.bx_ucd.specs.Data.{Data}
 use Rattle.bx_editor.specs.declared.questions.answers.Prompt.TheVariants as prompts
 use Rattle.bx_editor.specs.declared.message.Message.TheVariants.{TextFull}
@@ -192,11 +192,11 @@ pub record TakesItsPlace (d : Data) (e : Editor) (key : Key) : Type 0 where
 abbrev pub SelectionGivesWay : Type 0
 SelectionGivesWay = (d : Data) (e : Editor) (key : Key) → HasSelection e → bytes_put d e key ≢ [] → TakesItsPlace d e key
 
--- one UndoRun takes back what a key did in place of a selection
+-- one Undo takes back what a key did in place of a selection
 pub record ComesBack (d : Data) (e : Editor) (key : Key) : Type 0 where
-  pub removed : is_removal key ≡ true → IsBackBefore e (after_keys d None e (key ∷ UndoRun ∷ []))
+  pub removed : is_removal key ≡ true → IsBackBefore e (after_keys d None e (key ∷ Undo ∷ []))
   pub replaced : bytes_put d e key ≢ [] → length (rest_with d e (bytes_put d e key)) ≤ largest_text
-      → IsBackBefore e (after_keys d None e (key ∷ UndoRun ∷ []))
+      → IsBackBefore e (after_keys d None e (key ∷ Undo ∷ []))
 
 abbrev pub SelectionComesBack : Type 0
 SelectionComesBack = (d : Data) (e : Editor) (key : Key) → HasSelection e → ComesBack d e key

@@ -1,10 +1,10 @@
--- A law of the text that was stored or opened last: UndoRun and RedoRun that lead back to it find it unchanged. `d`, `e` and `new`
+-- A law of the text that was stored or opened last: Undo and Redo that lead back to it find it unchanged. `d`, `e` and `new`
 -- are as in Laws.antt; `n` is the number of the edits that led to that text.
 use Rattle.std.specs.Prelude.{◌≡◌, ◌≢◌, ◌⊎◌, ℕ, ◌≤◌, ◌&&◌, Bool, true, false, List, [], ◌∷◌, length, Option, None, is_none, is_some}
 use Rattle.bx_common.specs.declared.base.Base.{Base}
 use Rattle.bx_keys.specs.declared.key.Key.{Key}
 use Rattle.bx_keys.specs.declared.key.Key.TheVariants.{Insert, Erase, Delete, Cut, Put, Replace, EraseWord, DeleteWord, ErasePoint, NewLine}
-use Rattle.bx_keys.specs.declared.key.Key.TheVariants.{RedoRun, UndoRun}
+use Rattle.bx_keys.specs.declared.key.Key.TheVariants.{Redo, Undo}
 use Rattle.bx_store.specs.declared.store.StoreFault.{StoreFault}
 use Rattle.bx_text.specs.Edits.{Edit}
 use Rattle.bx_ucd.specs.Data.{Data}
@@ -47,11 +47,11 @@ pub record CountsChanges (n : ℕ) (edits : List Edit) (new : Editor) : Type 0 w
   pub stored : edits ≢ [] → length new.content.past ≡ n → new.changed ≡ false
   pub other : edits ≢ [] → length new.content.past ≢ n → new.changed ≡ true
 
--- UndoRun and RedoRun do so, where no paste is under way, the question is not whether to overwrite, and the text is not only looked at
+-- Undo and Redo do so, where no paste is under way, the question is not whether to overwrite, and the text is not only looked at
 abbrev pub RunsCountChanges : Data → ℕ → Editor → Type 0
 RunsCountChanges d n e =
     e.pasted ≡ None → e.prompt ≢ prompts.Overwrite → e.read_only ≡ false
-    → CountsChanges n e.content.past (after_key d None e UndoRun) × CountsChanges n e.content.future (after_key d None e RedoRun)
+    → CountsChanges n e.content.past (after_key d None e Undo) × CountsChanges n e.content.future (after_key d None e Redo)
 
 -- they do so after a key that stores the text, and after the opening, as long as the text that was stored or opened is in reach
 pub record StoredIsUnchanged : Type 0 where

@@ -1,7 +1,7 @@
 -- Laws of the keys that erase words. A stop is where a word begins, or where a body, a paragraph without its separator, begins (for
 -- EraseWord) or ends (for DeleteWord). `d`, `e` and `new` are as in Laws.antt.
 use Rattle.std.specs.Prelude.{◌≡◌, ℕ, ◌<◌, ◌≤◌, false, ◌++◌, length, take, drop, None, IsUtf8}
-use Rattle.bx_keys.specs.declared.key.Key.TheVariants.{DeleteWord, EraseWord, UndoRun}
+use Rattle.bx_keys.specs.declared.key.Key.TheVariants.{DeleteWord, EraseWord, Undo}
 use Rattle.bx_ucd.specs.Data.{Data}
 use Rattle.bx_editor.specs.declared.questions.answers.Prompt.TheVariants as prompts
 use Rattle.bx_view.specs.declared.moves.Logical.TheVariants.{Back, Forward}
@@ -24,12 +24,12 @@ pub record IsPlain (e : Editor) : Type 0 where
   pub unselected : is_selection e ≡ false
 
 -- The bytes from one offset to another are gone, and no others. The cursor is at the first place at or after the seam, no mark is
--- set, and one UndoRun takes this back.
+-- set, and one Undo takes this back.
 pub record Erases (d : Data) (e : Editor) (start stop : ℕ) (new : Editor) : Type 0 where
   pub text_is : new.content.text ≡ take start e.content.text ++ drop stop e.content.text
   pub place_is : new.place ≡ place_after d e new.content.text start
   pub mark_is : new.mark ≡ None
-  pub comes_back : IsBackBefore e (after_key d None new UndoRun)
+  pub comes_back : IsBackBefore e (after_key d None new Undo)
 
 -- the text, with what can be undone and redone, and the place stay
 pub record ErasesNothing (e new : Editor) : Type 0 where

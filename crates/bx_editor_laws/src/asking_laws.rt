@@ -13,7 +13,7 @@ pub fn told_numbers_lead_back()
     ensures { ToldNumbersLeadBack }
 {}
 
-/// One UndoRun takes back all that an answer to Name put in.
+/// One Undo takes back all that an answer to Name put in.
 pub fn answer_is_a_run()
     ensures { AnswerIsARun }
 {}

@@ -10,12 +10,12 @@ pub fn top_stays()
 {}
 
 /// Undoing everything restores the opened text, whatever was typed, with the cursor where it was before the oldest edit; but outside a
-/// paste and the question whether to overwrite, which the first Undo only ends.
+/// paste and the question whether to overwrite, which the first UndoEdit only ends.
 pub fn undo_gives_back()
     ensures { UndoGivesBack }
 {}
 
-/// Outside a paste and the question whether to overwrite, Undo then Redo leaves text, past and future unchanged, and the cursor at its place after the edit. Redo then Undo
+/// Outside a paste and the question whether to overwrite, UndoEdit then RedoEdit leaves text, past and future unchanged, and the cursor at its place after the edit. RedoEdit then UndoEdit
 /// leaves them unchanged, and the cursor at its place before the edit.
 pub fn redo_mirrors_undo()
     ensures { RedoMirrorsUndo }

@@ -10,6 +10,7 @@ mod pointing_laws;
 mod refusal_laws;
 mod replace_laws;
 mod run_laws;
+mod scroll_laws;
 mod selection_laws;
 mod view_laws;
 mod word_laws;
@@ -20,13 +21,17 @@ pub use asking_laws::{
     prompts_are_shown, questions_change_themselves, tell_shows, tells_what_stands,
     told_numbers_lead_back,
 };
-pub use input_laws::{keys_are_letters, line_keys_keep_prompt, only_answers_overwrite};
+pub use input_laws::{
+    input_line_is_text, keys_are_letters, line_keys_keep_prompt, only_answers_overwrite,
+};
 pub use laws::{
     copy_puts_twice, find_back_goes_to_previous, find_goes_to_next, giving_up_goes_back,
     goes_to_both_ends, mark_twice_is_nothing, put_restores_cut, redo_mirrors_undo, top_stays,
     undo_gives_back,
 };
-pub use line_laws::new_line_puts_separator;
+pub use line_laws::{
+    copied_line_goes_above, line_goes_above, new_line_puts_separator, shift_down_takes_lines,
+};
 pub use pasting_laws::{
     keys_end_pastes, paste_comes_back, paste_is_typing, pastes_are_alone, pastes_end_by_keys,
 };
@@ -43,11 +48,12 @@ pub use run_laws::{
     redo_run_mirrors_undo_run, run_keys_are_steps, stored_is_unchanged, unchanged_is_stored,
     word_is_a_run,
 };
+pub use scroll_laws::{far_keys_show, pages_go_back, wheel_goes_back, wheel_moves_view};
 pub use selection_laws::{
     cancel_unmarks, move_takes_selection_off, seeking_takes_selection_off, selection_comes_back,
     selection_gives_way, selection_is_removed,
 };
-pub use view_laws::view_keeps_text;
+pub use view_laws::{view_keeps_text, view_only_is_told};
 pub use word_laws::word_keys_erase;
 pub use work_laws::{
     column_is_kept, erase_point_leaves_beginning, find_next_is_find_twice,

@@ -18,7 +18,7 @@ pub fn pastes_are_alone()
     ensures { PastesAreAlone }
 {}
 
-/// Outside a search and a question, one UndoRun takes back all that a paste put in, and puts back the selection that gave way to it;
+/// Outside a search and a question, one Undo takes back all that a paste put in, and puts back the selection that gave way to it;
 /// if there was room for the pasted characters, they were put in.
 pub fn paste_comes_back()
     ensures { PasteComesBack }

@@ -29,7 +29,7 @@ pub fn replace_replaces_all()
     ensures { ReplaceReplacesAll }
 {}
 
-/// One UndoRun takes back what a key replaced.
+/// One Undo takes back what a key replaced.
 pub fn replaced_comes_back()
     ensures { ReplacedComesBack }
 {}

@@ -33,7 +33,7 @@ pub fn selection_gives_way()
     ensures { SelectionGivesWay }
 {}
 
-/// Outside a search, a question and a paste, one UndoRun takes back what a key did in place of a selection.
+/// Outside a search, a question and a paste, one Undo takes back what a key did in place of a selection.
 pub fn selection_comes_back()
     ensures { SelectionComesBack }
 {}
