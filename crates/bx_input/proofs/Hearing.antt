@@ -6,21 +6,21 @@ use Rattle.std.proofs.lemmas.List.{length-append, length-drop, length-take-le, t
 use Rattle.std.proofs.Math.Seq.{take-append-add}
 use Rattle.std.proofs.lemmas.Bool.Decides.{leb_tells}
 use Rattle.bx_input.specs.Frames.{Frame, frame_of, first_frame}
-use Rattle.bx_input.specs.Translating.{Translating, after_frame, after_end}
-use Rattle.bx_input.specs.Heard.{Reading, behind_frame, heard_by, heard_within, heard, left}
+use Rattle.bx_input.specs.Machine.{Machine}
+use Rattle.bx_input.specs.Heard.{Reading, written, at_end, behind_frame, heard_by, heard_within, heard, left}
 
 -- ---- more frames than there are bytes change nothing
 
-no_frame : (later : List ℕ → Translating → List ℕ) (bs : List ℕ) (t : Translating) → length bs ≤ 0 → heard_by later bs t (first_frame bs) ≡ (after_end t).output
+no_frame : (later : List ℕ → Machine → List ℕ) (bs : List ℕ) (t : Machine) → length bs ≤ 0 → heard_by later bs t (first_frame bs) ≡ at_end t
 no_frame later [] t h = refl
 no_frame later (b ∷ bs) t h = absurd (omega (arith, h))
 
-same_by : (later other : List ℕ → Translating → List ℕ) (bs : List ℕ) (t : Translating) (found : Option Frame)
-    → ((f : Frame) (s : Translating) → later (behind_frame f bs) s ≡ other (behind_frame f bs) s) → heard_by later bs t found ≡ heard_by other bs t found
+same_by : (later other : List ℕ → Machine → List ℕ) (bs : List ℕ) (t : Machine) (found : Option Frame)
+    → ((f : Frame) (s : Machine) → later (behind_frame f bs) s ≡ other (behind_frame f bs) s) → heard_by later bs t found ≡ heard_by other bs t found
 same_by later other bs t None same = refl
-same_by later other bs t (Some f) same = ap (λ more. (after_frame f t).output ++ more) (same f (after_frame f t).state)
+same_by later other bs t (Some f) same = ap (λ more. (written f t).output ++ more) (same f (written f t).state)
 
-pub enough : (n m : ℕ) (bs : List ℕ) (t : Translating) → length bs ≤ n → length bs ≤ m → heard_within n bs t ≡ heard_within m bs t
+pub enough : (n m : ℕ) (bs : List ℕ) (t : Machine) → length bs ≤ n → length bs ≤ m → heard_within n bs t ≡ heard_within m bs t
 enough zero zero bs t h k = refl
 enough zero (suc m) bs t h k = sym (no_frame (heard_within m) bs t h)
 enough (suc n) zero bs t h k = no_frame (heard_within n) bs t k
@@ -73,8 +73,8 @@ whole (l ∷ h ∷ low ∷ more) rest f is =
     ]
 
 -- the first frame is heard, and then all behind it
-pub taken : (held rest : List ℕ) (t : Translating) (f : Frame) → first_frame held ≡ Some f
-    → heard (held ++ rest) t ≡ (after_frame f t).output ++ heard (behind_frame f held ++ rest) (after_frame f t).state
+pub taken : (held rest : List ℕ) (t : Machine) (f : Frame) → first_frame held ≡ Some f
+    → heard (held ++ rest) t ≡ (written f t).output ++ heard (behind_frame f held ++ rest) (written f t).state
 taken held rest t f is =
     let w : IsWhole f held rest = whole held rest f is in
     let n : ℕ = length held + length rest in
@@ -83,16 +83,16 @@ taken held rest t f is =
     let left_over : length (behind_frame f held ++ rest) ≤ n = (let a = length-append (behind_frame f held) rest in let b = length-drop (3 + length f.bytes) held in omega (arith, a, b)) in
     enough (length (held ++ rest)) (suc n) (held ++ rest) t (omega arith) (omega (arith, sum))
     ∙ ap (heard_by (heard_within n) (held ++ rest) t) w.stays
-    ∙ ap (λ bs. (after_frame f t).output ++ heard_within n bs (after_frame f t).state) behind
-    ∙ ap (λ more. (after_frame f t).output ++ more)
-    (enough n (length (behind_frame f held ++ rest)) (behind_frame f held ++ rest) (after_frame f t).state left_over (omega arith))
+    ∙ ap (λ bs. (written f t).output ++ heard_within n bs (written f t).state) behind
+    ∙ ap (λ more. (written f t).output ++ more)
+    (enough n (length (behind_frame f held ++ rest)) (behind_frame f held ++ rest) (written f t).state left_over (omega arith))
 
 -- a reading takes a frame: it hears the same as before
 pub takes : (s new : Reading) (f : Frame) → s.ready ≡ [] → s.is_over ≡ false → first_frame s.held ≡ Some f
-    → new.translating ≡ (after_frame f s.translating).state → new.ready ≡ (after_frame f s.translating).output → new.is_over ≡ false
+    → new.machine ≡ (written f s.machine).state → new.ready ≡ (written f s.machine).output → new.is_over ≡ false
     → new.held ≡ behind_frame f s.held → (rest : List ℕ) → left new rest ≡ left s rest
 takes s new f ready is_before is state output is_open held rest =
-    rw (ready, is_before, state, output, is_open, held) (sym (taken s.held rest s.translating f is))
+    rw (ready, is_before, state, output, is_open, held) (sym (taken s.held rest s.machine f is))
 
 -- more bytes of the pipe are held: the same is heard
 pub holds : (s : Reading) (bytes rest : List ℕ) → left (record s { held = s.held ++ bytes }) rest ≡ left s (bytes ++ rest)
@@ -105,14 +105,14 @@ holds_known s bytes (Some xs) None h = absurd h
 holds_known s bytes (Some xs) (Some ys) h = holds s bytes ys ∙ ap (left s) (sym h)
 
 -- the bytes that a read took are held
-pub hears : (s new : Reading) (bytes : List ℕ) (before after : Option (List ℕ)) → new.held ≡ s.held ++ bytes → new.translating ≡ s.translating
+pub hears : (s new : Reading) (bytes : List ℕ) (before after : Option (List ℕ)) → new.held ≡ s.held ++ bytes → new.machine ≡ s.machine
     → new.ready ≡ s.ready → new.is_over ≡ s.is_over → Consumes before after bytes → Keeps (option_map (left s) before) (option_map (left new) after)
-hears s new bytes before after held translating ready over h =
+hears s new bytes before after held machine ready over h =
     let known = holds_known s bytes before after h in
     subst (λ held. Keeps (option_map (left s) before) (option_map (left (record new { held = held })) after)) (sym held)
-    (subst (λ t. Keeps (option_map (left s) before) (option_map (left (record { translating = t; held = s.held ++ bytes; ready = new.ready; is_over = new.is_over })) after)) (sym translating)
-    (subst (λ ready. Keeps (option_map (left s) before) (option_map (left (record { translating = s.translating; held = s.held ++ bytes; ready = ready; is_over = new.is_over })) after)) (sym ready)
-    (subst (λ over. Keeps (option_map (left s) before) (option_map (left (record { translating = s.translating; held = s.held ++ bytes; ready = s.ready; is_over = over })) after)) (sym over)
+    (subst (λ t. Keeps (option_map (left s) before) (option_map (left (record { machine = t; held = s.held ++ bytes; ready = new.ready; is_over = new.is_over })) after)) (sym machine)
+    (subst (λ ready. Keeps (option_map (left s) before) (option_map (left (record { machine = s.machine; held = s.held ++ bytes; ready = ready; is_over = new.is_over })) after)) (sym ready)
+    (subst (λ over. Keeps (option_map (left s) before) (option_map (left (record { machine = s.machine; held = s.held ++ bytes; ready = s.ready; is_over = over })) after)) (sym over)
     known)))
 
 -- a read that failed took nothing
@@ -163,9 +163,9 @@ copied_first count copied behind ready is h =
 
 -- the session takes the first bytes of what is ready
 pub gives : (s new : Reading) (count : ℕ) (given : List ℕ) → given ≡ take count s.ready → new.ready ≡ drop count s.ready
-    → new.translating ≡ s.translating → new.held ≡ s.held → new.is_over ≡ s.is_over → (rest : List ℕ) → left s rest ≡ given ++ left new rest
-gives s new count given is ready translating held over rest =
-    let later : List ℕ = if s.is_over then [] else heard (s.held ++ rest) s.translating in
+    → new.machine ≡ s.machine → new.held ≡ s.held → new.is_over ≡ s.is_over → (rest : List ℕ) → left s rest ≡ given ++ left new rest
+gives s new count given is ready machine held over rest =
+    let later : List ℕ = if s.is_over then [] else heard (s.held ++ rest) s.machine in
     ap (λ bs. bs ++ later) (sym (take-append-drop count s.ready))
     ∙ append_assoc (take count s.ready) (drop count s.ready) later
-    ∙ rw (is, ready, translating, held, over) refl
+    ∙ rw (is, ready, machine, held, over) refl

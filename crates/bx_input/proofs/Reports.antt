@@ -105,7 +105,7 @@ breaks_other ns b h n =
 abbrev with_numbers : Bool → List ℕ → List ℕ → List ℕ → Option Report
 with_numbers is_release b x y =
     cond (is_number b && (is_side_in_digits x && is_side_in_digits y))
-    (Some (record { button = digits_value 10 b; column = x; row = y; is_release = is_release })) None
+    (Some (record { button = digits_value 10 b; column = digits_value 10 x; row = digits_value 10 y; is_release = is_release })) None
 
 pub no_number : (ds : List ℕ) → all_ascii_digits ds ≡ false → is_side_in_digits ds ≡ false
 no_number ds e = and_left (is_number ds) _ (and_right _ (all_ascii_digits ds) e)

@@ -1,13 +1,13 @@
-pub mod Filter
 pub mod Frames
 pub mod Heard
+pub mod KeyBytes
 pub mod Known
+pub mod Machine
 pub mod Models
 pub mod Mouse
-pub mod Numbers
 pub mod Paste
 pub mod PasteTail
+pub mod Scan
 pub mod Sizes
 pub mod Strings
 pub mod Table
-pub mod Translating

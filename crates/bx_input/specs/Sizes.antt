@@ -1,12 +1,14 @@
--- Sizes of the window, as terminals tell them that are asked: CSI 8 ; rows ; columns t. They are keys of the editor, and Fill follows
--- them. `ps` are the bytes after CSI 8 ;, `bs` are bytes.
-use Rattle.std.specs.Prelude.{ℕ, Bool, false, ◌&&◌, ◌==◌, List, [], ◌∷◌, ◌++◌, codes, if◌then◌else◌}
+-- Sizes of the window, as terminals tell them that are asked: CSI 8 ; rows ; columns t. Fill follows their key. `ps` are the bytes after
+-- CSI 8 ;, `bs` are bytes, `h` are rows, `w` are columns.
+use Rattle.std.specs.Prelude.{ℕ, Bool, false, ◌&&◌, ◌==◌, List, [], ◌∷◌, Option, Some, None, is_some, if◌then◌else◌}
 use Rattle.std.specs.List.{slice_split}
+use Rattle.std.specs.Str.Parse.{digits_value}
 use Rattle.bx_bytes.specs.declared.fate.Fate.{Fate}
 use Rattle.bx_bytes.specs.declared.fate.Fate.TheVariants.{Waits, Ends, Breaks}
 use Rattle.bx_keys.specs.Keys.{is_side_in_digits, final_byte, before_final}
+use Rattle.bx_keys.specs.declared.key.Key.{Key}
+use Rattle.bx_keys.specs.declared.key.Key.TheVariants.{Size, Fill}
 use Rattle.bx_input.specs.Mouse.{begins_report}
-use Rattle.bx_input.specs.Table.{csi}
 
 -- the bytes begin with CSI 8 ;
 abbrev pub opens_size : List ℕ → Bool
@@ -14,18 +16,19 @@ opens_size (a ∷ b ∷ c ∷ d ∷ bs) = ((a == 0x1B && b == 0x5B) && c == 0x38
 opens_size _ = false
 
 -- two numbers are the sides of a window
-abbrev pub are_sides : List (List ℕ) → Bool
-are_sides (h ∷ w ∷ []) = is_side_in_digits h && is_side_in_digits w
-are_sides _ = false
+abbrev pub size_of_numbers : List (List ℕ) → Option Key
+size_of_numbers (h ∷ w ∷ []) =
+    if is_side_in_digits h && is_side_in_digits w then Some (Size (digits_value 10 h) (digits_value 10 w)) else None
+size_of_numbers _ = None
 
--- the bytes are a size
-abbrev pub is_size : List ℕ → Bool
-is_size ps = final_byte ps == 0x74 && are_sides (slice_split (λ b. b == 0x3B) (before_final ps))
+-- the key of the size that these bytes are, if they are one
+abbrev pub size_of : List ℕ → Option Key
+size_of ps = if final_byte ps == 0x74 then size_of_numbers (slice_split (λ b. b == 0x3B) (before_final ps)) else None
 
 -- whether they are a size (Ends), begin one (Waits) or neither (Breaks); as many digits and semicolons wait as of a mouse report
 abbrev pub size_fate : List ℕ → Fate
-size_fate ps = if is_size ps then Ends else if begins_report ps then Waits else Breaks
+size_fate ps = if is_some (size_of ps) then Ends else if begins_report ps then Waits else Breaks
 
--- the sequence itself, and that of the key Fill
-abbrev pub sized : List ℕ → List ℕ
-sized ps = csi (0x38 ∷ 0x3B ∷ ps) ++ csi (codes "102~")
+-- the keys of a size, which has this key
+abbrev pub sized : Key → List Key
+sized key = key ∷ Fill ∷ []

@@ -1,8 +1,7 @@
 -- Control strings (ECMA-48, 5.6), which terminals send as answers: ESC and P, X, ], ^ or _, at most 4,096 bytes, and BEL or ESC and a
 -- backslash. They give nothing. `held` are the bytes behind the ESC, `b` is a byte.
-use Rattle.std.specs.Prelude.{ℕ, ◌-◌, Bool, false, ◌&&◌, ◌||◌, nat_le, ◌==◌, List, [], ◌∷◌, length, slice_index_or, if◌then◌else◌}
-use Rattle.std.specs.Str.{bytes_eq}
-use Rattle.bx_input.specs.Filter.{State, Outside, Within, apart_from}
+use Rattle.std.specs.Prelude.{ℕ, ◌-◌, Bool, false, ◌&&◌, ◌||◌, nat_le, ◌==◌, List, length, slice_index_or}
+use Rattle.bx_input.specs.Scan.{State, Outside, Within, are_escapes}
 
 -- the byte that says which control string it is
 abbrev pub is_introducer : ℕ → Bool
@@ -10,7 +9,7 @@ is_introducer b = (b == 0x50 || b == 0x58) || ((b == 0x5D || b == 0x5E) || b == 
 
 -- an ESC waits outside a paste, alone or behind another
 abbrev pub awaits_introducer : State → Bool
-awaits_introducer (Outside waiting is_open) = bytes_eq waiting (0x1B ∷ []) || bytes_eq waiting (0x1B ∷ 0x1B ∷ [])
+awaits_introducer (Outside waiting) = are_escapes waiting
 awaits_introducer (Within waiting after_return) = false
 
 -- the byte begins a control string
@@ -28,12 +27,3 @@ ends_string held b = b == 0x07 || (b == 0x5C && ends_by_escape held)
 -- the string may go on: it has the introducer and at most 4,096 bytes, or an ESC more
 abbrev pub is_short_string : List ℕ → Bool
 is_short_string held = nat_le (length held) 4097 || (nat_le (length held) 4098 && ends_by_escape held)
-
--- What goes out for a whole string, where its ESC waits in this state: nothing, as for a mouse report that gives nothing. Of two ESC the
--- first goes out. In other states no string is read.
-abbrev pub string_output : State → List ℕ
-string_output (Outside waiting is_open) =
-    if bytes_eq waiting (0x1B ∷ []) then apart_from is_open []
-    else if bytes_eq waiting (0x1B ∷ 0x1B ∷ []) then 0x1B ∷ 0x18 ∷ []
-    else []
-string_output (Within waiting after_return) = []

@@ -3,7 +3,7 @@
 ghost use Rattle.std.specs.Prelude.{◌≡◌};
 ghost use Rattle.bx_input.specs.Strings as spec;
 
-use crate::after::ESC;
+use crate::known::ESC;
 
 /// The most bytes of a control string behind its ESC: the introducer and 4,096 more.
 const MOST: usize = 4097;

@@ -4,7 +4,7 @@ ghost use Rattle.std.specs.Prelude.{◌∷◌, [], ◌++◌};
 ghost use Rattle.bx_input.specs.Models.{TellsInPaste};
 ghost use Rattle.bx_input.specs.PasteTail.{tail_bytes};
 
-use crate::after::ESC;
+use crate::known::ESC;
 use crate::paste_tail::PasteTail;
 
 /// What the waiting bytes and one more are.

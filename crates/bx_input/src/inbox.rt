@@ -3,10 +3,11 @@
 ghost use Rattle.std.specs.Prelude.{◌≡◌, ◌≤◌, ◌<◌, ◌++◌, ℕ, List, [], None, Ok, true, false, IfOk, OnOk, OnErr, length, take};
 ghost use Rattle.bx_input.specs.Frames.{first_frame};
 ghost use Rattle.bx_input.specs.Heard.{Reading, left};
-ghost use Rattle.bx_input.specs.Translating.{begun};
+ghost use Rattle.bx_input.specs.Machine.{begun};
 
 use crate::frame::{FRAME_HEAD, first_frame};
-use crate::translator::Translator;
+use crate::machine::Machine;
+use crate::translate::{finish, translate};
 use std::alloc::{AllocError, Global};
 use std::marker::Model;
 
@@ -14,7 +15,7 @@ use std::marker::Model;
 #[derive(Drop)]
 pub(crate) struct Inbox {
     alloc: Global,
-    translator: Translator,
+    machine: Machine,
     /// The bytes of the pipe that are no whole frame yet.
     pub(crate) held: Vec<u8>,
     /// What the session has still to read of the frames before.
@@ -26,17 +27,17 @@ pub(crate) struct Inbox {
 impl Model for Inbox {
     ghost Value = { Reading };
 
-    ghost view = { λ s. record { translating = s.translator; held = s.held.items; ready = s.ready.items; is_over = s.is_over } };
+    ghost view = { λ s. record { machine = s.machine; held = s.held.items; ready = s.ready.items; is_over = s.is_over } };
 }
 
 impl Inbox {
     /// An inbox before anything was read.
     pub(crate) fn new(alloc: Global, erases_by_delete: bool) -> Inbox
-        ensures { result ≡ record { translating = begun erases_by_delete; held = []; ready = []; is_over = false } }
+        ensures { result ≡ record { machine = begun erases_by_delete; held = []; ready = []; is_over = false } }
     {
         Inbox {
             alloc,
-            translator: Translator::new(alloc, erases_by_delete),
+            machine: Machine::new(alloc, erases_by_delete),
             held: Vec::new(alloc),
             ready: Vec::new(alloc),
             is_over: false,
@@ -63,10 +64,10 @@ impl Inbox {
             return Ok(false);
         };
         let count = FRAME_HEAD + frame.bytes.len();
-        let mut translator = self.translator.copied()?;
+        let mut machine = self.machine.copied()?;
         let mut ready = Vec::new(self.alloc);
-        translator.translate(frame, &mut ready)?;
-        self.translator = translator;
+        translate(&mut machine, frame, &mut ready)?;
+        self.machine = machine;
         self.ready = ready;
         self.held.drain(..count);
         Ok(true)
@@ -80,10 +81,10 @@ impl Inbox {
         ensures left { left self.new [] ≡ left self.old [] }
         ensures over { OnOk result (self.new.is_over ≡ true) }
     {
-        let mut translator = self.translator.copied()?;
+        let mut machine = self.machine.copied()?;
         let mut ready = Vec::new(self.alloc);
-        translator.finish(&mut ready)?;
-        self.translator = translator;
+        finish(&mut machine, &mut ready)?;
+        self.machine = machine;
         self.ready = ready;
         self.is_over = true;
         Ok(())

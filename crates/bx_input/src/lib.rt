@@ -1,41 +1,34 @@
-//! A filter between a terminal and the editor: turns the sequences that terminals send into those that the editor reads.
+//! The machine between the host and the editor: it turns what terminals send, and what the host tells, into the editor's keys.
 //!
-//! Terminals send bytes that the editor has no key for, or has an older one for than the key that they come from: arrows,
-//! Page Up and Page Down, the Home and End of rxvt, keys with Shift, Alt or Ctrl, the keys that erase, Enter, the Delete of
-//! st, F1 to F4, F7 and F10, the keypad's digits, pastes, and reports of the mouse. `specs/Table.antt` has the table, `specs/Mouse.antt` the
-//! reports, `specs/Sizes.antt` the sizes of the window, which Fill follows, and `specs/Strings.antt` the control strings, which give nothing.
-//! All else passes unchanged, broken sequences too. A paste becomes text between two keys that tell its start and its end: of its control bytes only TAB and
-//! LF are left, so it can neither save nor quit nor move nor erase, nor set a mark, cut or search.
+//! `specs/Table.antt` has the sequences that terminals send for keys, `specs/Mouse.antt` the reports of the mouse, `specs/Sizes.antt` the
+//! sizes of the window, which Fill follows, and `specs/Strings.antt` the control strings, which give nothing. `specs/Scan.antt` finds these
+//! among typed bytes. All other bytes pass on to the grammar of items of `bx_keys`. Of the control characters of a paste only TAB and LF
+//! are left, so a paste can neither save nor quit nor move nor erase, nor set a mark, cut or search.
 //!
-//! The host sends what the terminal typed in frames, between sizes of the window and notices (`specs/Translating.antt`).
-//! `FrameReader` reads these, and gives the session one stream of bytes.
+//! `specs/Machine.antt` has the machine's step for each event: a typed byte, a size, a pause, a notice, the input's end. The host sends
+//! these in frames. `FrameReader` reads the frames, and gives the session the bytes of the keys (`specs/KeyBytes.antt`).
 #![tactic(auto)]
 
-mod after;
-mod after_csi;
-mod after_told;
-mod beginning;
 mod control_string;
-mod filter;
-mod filter_state;
 mod frame;
 mod frame_reader;
 mod in_paste;
 mod inbox;
+mod known;
+mod machine;
 mod mouse;
-mod numbers;
-mod output;
 mod paste_tail;
 mod pause;
+mod scan;
+mod scan_state;
 mod sizes;
-mod step;
-mod translator;
+mod table;
+mod translate;
+mod writing;
 
-pub use filter::Filter;
 pub use frame::{
     END, FAULT, FRAME_HEAD, Frame, IDLE, JOURNAL, NOTICE, OPENED, REPLAYED, SIZE, TYPED,
     first_frame,
 };
 pub use frame_reader::FrameReader;
-pub use output::Output;
-pub use translator::Translator;
+pub use machine::{Event, Machine};

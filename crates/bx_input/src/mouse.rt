@@ -1,57 +1,69 @@
-//! Mouse reports, and what they become, by `specs/Mouse.antt`.
+//! Mouse reports, and their keys, by `specs/Mouse.antt`.
 
-ghost use Rattle.std.specs.Prelude.{◌≡◌, ◌∷◌, [], ◌++◌, ◌==◌, true, IfSome};
-ghost use Rattle.std.specs.List.{slice_split};
+ghost use Rattle.std.specs.Prelude.{◌≡◌, [], ◌∷◌, ◌==◌, option_map};
+ghost use Rattle.std.specs.List.{list_all, slice_split};
 ghost use Rattle.bx_keys.specs.Keys as keys_are;
-ghost use Rattle.bx_input.specs.Filter.{apart_from};
 ghost use Rattle.bx_input.specs.Mouse as spec;
-ghost use Rattle.bx_input.specs.Mouse.{report_of};
-ghost use Rattle.bx_input.specs.Models.{bytes_of, IsReport, TellsOfReport};
+ghost use Rattle.bx_input.specs.Models.{keys_in, report_in};
 
-use crate::numbers::Numbers;
-use crate::output::{Output, can, keys, plain};
-use bx_keys::{first_semicolon, number, side};
+use crate::known::Keys;
+use bx_bytes::Fate;
+use bx_keys::{Key, first_semicolon, number, side};
 
-/// A mouse report. Column and row are the digits that came.
+/// The most bytes that the numbers of a report have: three of three digits, and two semicolons.
+const MOST: usize = 11;
+
+/// A mouse report: the number of its button, and the cell's column and row.
 #[derive(Clone, Copy)]
-struct Report<'a> {
+pub struct Report {
     button: u16,
-    column: &'a [u8],
-    row: &'a [u8],
+    column: u16,
+    row: u16,
     is_release: bool,
 }
 
-/// What the bytes behind CSI < and one more are.
-#[derive(Drop)]
-pub enum AfterReport {
-    /// They begin a mouse report.
-    Waits(Numbers),
-    /// They are one, with this output.
-    Becomes(Output),
-    /// They begin none.
-    Breaks,
+/// Whether the byte is a digit or a semicolon.
+fn is_number_byte(byte: u8) -> bool
+    ensures { result ≡ spec.is_number_byte byte }
+{
+    byte.is_ascii_digit() || byte == b';'
 }
 
-/// What the bytes behind CSI < and one more are. `is_open` says whether a sequence that went out may still be open.
-pub fn report_after(is_open: bool, numbers: &Numbers, byte: u8) -> AfterReport
-    ensures { TellsOfReport is_open result (numbers.now ++ byte ∷ []) }
+/// Whether all of the bytes are digits and semicolons.
+fn are_numbers(bytes: &[u8]) -> bool
+    ensures { result ≡ list_all spec.is_number_byte bytes.now }
 {
-    match numbers.and(byte) {
-        Some(more) => AfterReport::Waits(more),
-        None => match whole_report(numbers.bytes(), byte) {
-            Some(report) => AfterReport::Becomes(reported(is_open, report)),
-            None => AfterReport::Breaks,
-        },
+    bytes.iter().all(|byte| is_number_byte(*byte))
+}
+
+/// Whether a report, or a size of the window, may go on from these bytes.
+pub(crate) fn begins_report(bytes: &[u8]) -> bool
+    ensures { result ≡ spec.begins_report bytes.now }
+{
+    bytes.len() <= MOST && are_numbers(bytes)
+}
+
+/// What the bytes behind CSI < are.
+pub fn report_fate(bytes: &[u8]) -> Fate
+    ensures { result ≡ spec.report_fate bytes.now }
+{
+    if report_of(bytes).is_some() {
+        Fate::Ends
+    } else if begins_report(bytes) {
+        Fate::Waits
+    } else {
+        Fate::Breaks
     }
 }
 
-/// The report that these numbers and the final byte are.
-fn whole_report(numbers: &[u8], last: u8) -> Option<Report<'_>>
-    ensures value { IsReport result (report_of (numbers.now ++ last ∷ [])) }
-    ensures column { IfSome result (λ r. keys_are.is_side_in_digits r.column.now ≡ true) }
-    ensures row { IfSome result (λ r. keys_are.is_side_in_digits r.row.now ≡ true) }
+/// The report that the bytes behind CSI < are.
+pub fn report_of(bytes: &[u8]) -> Option<Report>
+    ensures { option_map report_in result ≡ spec.report_of bytes.now }
 {
-    match last {
+    let [numbers @ .., last] = bytes else {
+        return None;
+    };
+    match *last {
         b'M' => report_of_numbers(false, numbers),
         b'm' => report_of_numbers(true, numbers),
         _ => None,
@@ -59,97 +71,65 @@ fn whole_report(numbers: &[u8], last: u8) -> Option<Report<'_>>
 }
 
 /// The report of BUTTON;COLUMN;ROW.
-fn report_of_numbers(is_release: bool, numbers: &[u8]) -> Option<Report<'_>>
-    ensures value { IsReport result (spec.report_of_numbers is_release (slice_split (λ b. b == 0x3B) numbers.now)) }
-    ensures column { IfSome result (λ r. keys_are.is_side_in_digits r.column.now ≡ true) }
-    ensures row { IfSome result (λ r. keys_are.is_side_in_digits r.row.now ≡ true) }
+fn report_of_numbers(is_release: bool, numbers: &[u8]) -> Option<Report>
+    ensures { option_map report_in result ≡ spec.report_of_numbers is_release (slice_split (λ b. b == 0x3B) numbers.now) }
 {
     let first = first_semicolon(numbers)?;
     report_of_cell(is_release, &numbers[..first], &numbers[first + 1..])
 }
 
 /// The report of a button and COLUMN;ROW.
-fn report_of_cell<'a>(is_release: bool, button: &[u8], cell: &'a [u8]) -> Option<Report<'a>>
-    ensures value { IsReport result (spec.report_of_numbers is_release (button.now ∷ slice_split (λ b. b == 0x3B) cell.now)) }
-    ensures column { IfSome result (λ r. keys_are.is_side_in_digits r.column.now ≡ true) }
-    ensures row { IfSome result (λ r. keys_are.is_side_in_digits r.row.now ≡ true) }
+fn report_of_cell(is_release: bool, button: &[u8], cell: &[u8]) -> Option<Report>
+    ensures { option_map report_in result ≡ spec.report_of_numbers is_release (button.now ∷ slice_split (λ b. b == 0x3B) cell.now) }
 {
     let second = first_semicolon(cell)?;
     report_of_three(is_release, button, &cell[..second], &cell[second + 1..])
 }
 
 /// The report of a button, a column and a row.
-fn report_of_three<'a>(
-    is_release: bool,
-    button: &[u8],
-    column: &'a [u8],
-    row: &'a [u8],
-) -> Option<Report<'a>>
-    ensures value { IsReport result (spec.report_of_numbers is_release (button.now ∷ column.now ∷ row.now ∷ [])) }
-    ensures column { IfSome result (λ r. keys_are.is_side_in_digits r.column.now ≡ true) }
-    ensures row { IfSome result (λ r. keys_are.is_side_in_digits r.row.now ≡ true) }
+fn report_of_three(is_release: bool, button: &[u8], column: &[u8], row: &[u8]) -> Option<Report>
+    ensures { option_map report_in result ≡ spec.report_of_numbers is_release (button.now ∷ column.now ∷ row.now ∷ []) }
 {
-    let button = number(button)?;
-    if is_side(column) && is_side(row) {
-        Some(Report {
-            button,
-            column,
-            row,
-            is_release,
-        })
-    } else {
-        None
+    Some(Report {
+        button: number(button)?,
+        column: side(column)?,
+        row: side(row)?,
+        is_release,
+    })
+}
+
+/// No key.
+const NONE: Keys = Keys {
+    before: None,
+    key: None,
+};
+
+/// One key.
+fn one(key: Key) -> Keys
+    ensures { keys_in result ≡ key ∷ [] }
+{
+    Keys {
+        before: None,
+        key: Some(key),
     }
 }
 
-/// Whether the digits are a row or a column, from 1 to 500.
-pub(crate) fn is_side(digits: &[u8]) -> bool
-    ensures { result ≡ keys_are.is_side_in_digits digits.now }
-{
-    side(digits).is_some()
-}
-
-/// The output of a report.
-fn reported(is_open: bool, report: Report<'_>) -> Output
-    requires column { keys_are.is_side_in_digits report.column.now ≡ true }
-    requires row { keys_are.is_side_in_digits report.row.now ≡ true }
-    ensures { bytes_of result ≡ apart_from is_open (spec.reported (record {
-      button = report.entry.button;
-      column = report.entry.column.now;
-      row = report.entry.row.now;
-      is_release = report.entry.is_release;
-    })) }
+/// The keys of a report.
+pub fn reported(report: Report) -> Keys
+    ensures { keys_in result ≡ spec.reported (report_in report) }
 {
     if report.is_release {
-        return nothing_after(is_open);
+        return NONE;
     }
     match report.button {
-        0 => cell(b"\x1b[7;", report.row, report.column),
-        4 => cell(b"\x1b[81~\x1b[7;", report.row, report.column),
-        32 | 36 => cell(b"\x1b[9;", report.row, report.column),
-        64 => keys(b"\x1b[104~"),
-        65 => keys(b"\x1b[105~"),
-        _ => nothing_after(is_open),
-    }
-}
-
-/// No key: a CAN (18) if a sequence is open, which would else take what comes next as its own.
-fn nothing_after(is_open: bool) -> Output
-    ensures { bytes_of result ≡ apart_from is_open [] }
-{
-    plain(can(is_open), None)
-}
-
-/// The output of these bytes, a row and a column, and the final byte of the keys Point and Drag.
-fn cell(before: &'static [u8], row: &[u8], column: &[u8]) -> Output
-    requires row { keys_are.is_side_in_digits row.now ≡ true }
-    requires column { keys_are.is_side_in_digits column.now ≡ true }
-    ensures { bytes_of result ≡ before.now ++ ((row.now ++ 0x3B ∷ column.now) ++ 0x74 ∷ []) }
-{
-    Output {
-        before,
-        numbers: Numbers::of_cell(row, column),
-        key: b"t",
-        byte: None,
+        0 => one(Key::Point(report.row, report.column)),
+        4 => Keys {
+            before: Some(Key::Select),
+            key: Some(Key::Point(report.row, report.column)),
+        },
+        32 | 36 => one(Key::Drag(report.row, report.column)),
+        64 => one(Key::ScrollBack),
+        65 => one(Key::ScrollOn),
+        _ => NONE,
     }
 }

@@ -1,4 +1,4 @@
-//! Pauses in typing, as far as the filter remembers them.
+//! Pauses in typing, as far as the machine remembers them.
 
 /// When a pause came.
 #[derive(Clone, Copy)]

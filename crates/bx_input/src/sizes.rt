@@ -1,54 +1,51 @@
 //! Sizes of the window that come among the keys, by `specs/Sizes.antt`.
 
-ghost use Rattle.std.specs.Prelude.{◌≡◌, ◌∷◌, [], ◌++◌, ◌==◌, false};
-ghost use Rattle.bx_input.specs.Mouse.{begins_report};
+ghost use Rattle.std.specs.Prelude.{◌≡◌, ◌==◌, ◌∷◌, []};
 ghost use Rattle.std.specs.List.{slice_split};
-ghost use Rattle.bx_input.specs.Models.{TellsOfSize};
 ghost use Rattle.bx_input.specs.Sizes as spec;
 
-use crate::mouse::is_side;
-use crate::numbers::Numbers;
-use bx_keys::first_semicolon;
+use crate::mouse::begins_report;
+use bx_bytes::Fate;
+use bx_keys::{Key, first_semicolon, side};
 
-/// What the bytes behind CSI 8; and one more are.
-#[derive(Drop)]
-pub enum AfterSize {
-    /// They begin a size.
-    Waits(Numbers),
-    /// They are one.
-    Ends,
-    /// They begin none.
-    Breaks,
-}
-
-/// What the bytes behind CSI 8; and one more are.
-pub fn size_after(numbers: &Numbers, byte: u8) -> AfterSize
-    ensures { TellsOfSize result (numbers.now ++ byte ∷ []) }
+/// What the bytes behind CSI 8; are.
+pub fn size_fate(bytes: &[u8]) -> Fate
+    ensures { result ≡ spec.size_fate bytes.now }
 {
-    match numbers.and(byte) {
-        Some(more) => AfterSize::Waits(more),
-        None => whole_size(numbers.bytes(), byte),
-    }
-}
-
-/// Whether these numbers and the final byte, with which they begin no size, are one.
-fn whole_size(numbers: &[u8], last: u8) -> AfterSize
-    requires { begins_report (numbers.now ++ last ∷ []) ≡ false }
-    ensures { TellsOfSize result (numbers.now ++ last ∷ []) }
-{
-    if last == b't' && are_sides(numbers) {
-        AfterSize::Ends
+    if size_of(bytes).is_some() {
+        Fate::Ends
+    } else if begins_report(bytes) {
+        Fate::Waits
     } else {
-        AfterSize::Breaks
+        Fate::Breaks
     }
 }
 
-/// Whether these numbers are ROWS;COLUMNS.
-fn are_sides(numbers: &[u8]) -> bool
-    ensures { result ≡ spec.are_sides (slice_split (λ b. b == 0x3B) numbers.now) }
+/// The key of the size that the bytes behind CSI 8; are.
+pub fn size_of(bytes: &[u8]) -> Option<Key>
+    ensures { result ≡ spec.size_of bytes.now }
 {
-    match first_semicolon(numbers) {
-        Some(first) => is_side(&numbers[..first]) && is_side(&numbers[first + 1..]),
-        None => false,
+    let [numbers @ .., last] = bytes else {
+        return None;
+    };
+    if *last == b't' {
+        size_of_numbers(numbers)
+    } else {
+        None
     }
+}
+
+/// The key of ROWS;COLUMNS.
+fn size_of_numbers(numbers: &[u8]) -> Option<Key>
+    ensures { result ≡ spec.size_of_numbers (slice_split (λ b. b == 0x3B) numbers.now) }
+{
+    let first = first_semicolon(numbers)?;
+    size_of_two(&numbers[..first], &numbers[first + 1..])
+}
+
+/// The key of rows and columns.
+fn size_of_two(rows: &[u8], columns: &[u8]) -> Option<Key>
+    ensures { result ≡ spec.size_of_numbers (rows.now ∷ columns.now ∷ []) }
+{
+    Some(Key::Size(side(rows)?, side(columns)?))
 }

@@ -1,14 +1,15 @@
 -- Control strings give nothing.
-use Rattle.std.proofs.Common.{◌≡◌, ℕ, ◌+◌, ◌-◌, ◌≤◌, inl, inr, Bool, true, false, not, ◌&&◌, ◌||◌, nat_eq, nat_le, List, [], ◌∷◌, ◌++◌, length, None, refl, ap, sym, ◌∙◌, append_assoc, arith}
+use Rattle.std.proofs.Common.{◌≡◌, ℕ, ◌+◌, ◌-◌, ◌≤◌, inl, inr, Bool, true, false, not, ◌&&◌, ◌||◌, nat_eq, nat_le, List, [], ◌∷◌, ◌++◌, length, map, None, refl, ap, sym, ◌∙◌, append_assoc, arith}
 use Rattle.std.proofs.lemmas.Bool.{and_parts, and_from, or_parts, cond-true, cond-false}
 use Rattle.std.proofs.lemmas.Bool.Decides.{nat_tests}
 use Rattle.std.proofs.lemmas.List.{append-nil, get_or_push, length_push}
-use Rattle.bx_input.specs.Filter.{Outside, filtering, started, apart_from}
+use Rattle.bx_input.specs.Scan.{Outside}
 use Rattle.bx_input.specs.Strings.{is_introducer, ends_by_escape, ends_string, is_short_string}
-use Rattle.bx_input.specs.Translating.{Translating, Translated, after_all_typed, after_typed, after_held, after_whole, after_fed, settled, rest_behind}
+use Rattle.bx_keys.specs.declared.key.Key.{Key}
+use Rattle.bx_input.specs.Machine.{Machine, Moved, Typed, quiet, after_all, after_typed, after_held, after_whole, after_scanned}
 use Rattle.bx_input.specs.declared.pause.Pause.{Pause}
 use Rattle.bx_input.specs.declared.pause.Pause.TheVariants as pauses
-use Rattle.bx_input_laws.specs.Strings.{IsEnd, StringsGiveNothing, has_end, idle_translating}
+use Rattle.bx_input_laws.specs.Strings.{IsEnd, StringsGiveNothing, has_end, idle_machine}
 
 -- ---- bytes that leave a string open
 
@@ -79,78 +80,60 @@ content_goes held (b ∷ cs) l n h =
 
 -- ---- the way through a string
 
-quiet : (by_delete : Bool) (left : List ℕ) → (settled (record { filter = started by_delete; string = []; rest = left; size = None; notice = None })).output ≡ []
-quiet by_delete [] = refl
-quiet by_delete (b ∷ bs) = refl
+module _ (by_delete : Bool) (rest : List ℕ) where
+  -- the ESC waits, and these bytes behind it
+  abbrev holding : List ℕ → Machine
+  holding held = record { erases_by_delete = by_delete; state = Outside (0x1B ∷ []); pause = pauses.No; string = held; rest = rest; notice = None }
 
-escape_read : (by_delete is_open : Bool) (pause : Pause) (rest : List ℕ) → after_typed 0x1B (idle_translating by_delete is_open pause rest) ≡ record {
-  state = record { filter = filtering by_delete (Outside (0x1B ∷ []) is_open) pauses.No; string = []; rest = rest; size = None; notice = None };
-  output = [];
-}
-escape_read by_delete is_open pause [] = refl
-escape_read by_delete is_open pause (b ∷ bs) = refl
-
-module _ (by_delete is_open : Bool) (rest : List ℕ) where
-  -- the ESC waits in the filter, and these bytes behind it
-  abbrev holding : List ℕ → Translating
-  holding held = record { filter = filtering by_delete (Outside (0x1B ∷ []) is_open) pauses.No; string = held; rest = rest; size = None; notice = None }
-
-  abbrev nothing : Translating → Translated
-  nothing t = record { state = t; output = [] }
-
-  abbrev output_of : List ℕ → Translating → List ℕ
-  output_of bs t = (after_all_typed bs t).output
+  abbrev keys_of : List ℕ → Machine → List Key
+  keys_of bs m = (after_all (map Typed bs) m).keys
 
   not_of : (t : Bool) → not t ≡ true → t ≡ false
   not_of true h = absurd (cc h)
   not_of false h = refl
 
+  escape_read : (pause : Pause) → after_typed 0x1B (idle_machine by_delete pause rest) ≡ quiet (holding [])
+  escape_read pause = refl
+
   content_byte : (x : ℕ) (xs : List ℕ) (b : ℕ) → ends_string (x ∷ xs) b ≡ false → is_short_string (x ∷ (xs ++ b ∷ [])) ≡ true
-      → after_typed b (holding (x ∷ xs)) ≡ nothing (holding (x ∷ (xs ++ b ∷ [])))
+      → after_typed b (holding (x ∷ xs)) ≡ quiet (holding (x ∷ (xs ++ b ∷ [])))
   content_byte x xs b e s =
       cond-false (ends_string (x ∷ xs) b) (after_whole (holding (x ∷ xs))) (after_held (x ∷ (xs ++ b ∷ [])) (holding (x ∷ xs))) e
-      ∙ cond-true (is_short_string (x ∷ (xs ++ b ∷ []))) (nothing (holding (x ∷ (xs ++ b ∷ [])))) _ s
+      ∙ cond-true (is_short_string (x ∷ (xs ++ b ∷ []))) (quiet (holding (x ∷ (xs ++ b ∷ [])))) _ s
 
-  after_nothing : (b : ℕ) (bs : List ℕ) (t t' : Translating) → after_typed b t ≡ nothing t' → output_of (b ∷ bs) t ≡ output_of bs t'
-  after_nothing b bs t t' h = ap (λ (z : Translated). z.output ++ (after_all_typed bs z.state).output) h
+  after_nothing : (b : ℕ) (bs : List ℕ) (m m' : Machine) → after_typed b m ≡ quiet m' → keys_of (b ∷ bs) m ≡ keys_of bs m'
+  after_nothing b bs m m' h = ap (λ (z : Moved). z.keys ++ (after_all (map Typed bs) z.machine).keys) h
 
-  through : (x : ℕ) (xs cs more : List ℕ) → goes_on (x ∷ xs) cs ≡ true → output_of (cs ++ more) (holding (x ∷ xs)) ≡ output_of more (holding (x ∷ (xs ++ cs)))
-  through x xs [] more h = ap (λ ys. output_of more (holding (x ∷ ys))) (sym (append-nil xs))
+  through : (x : ℕ) (xs cs more : List ℕ) → goes_on (x ∷ xs) cs ≡ true → keys_of (cs ++ more) (holding (x ∷ xs)) ≡ keys_of more (holding (x ∷ (xs ++ cs)))
+  through x xs [] more h = ap (λ ys. keys_of more (holding (x ∷ ys))) (sym (append-nil xs))
   through x xs (b ∷ cs) more h =
       let parts = and_parts (not (ends_string (x ∷ xs) b) && is_short_string (x ∷ (xs ++ b ∷ []))) (goes_on (x ∷ (xs ++ b ∷ [])) cs) h in
       let tests = and_parts (not (ends_string (x ∷ xs) b)) (is_short_string (x ∷ (xs ++ b ∷ []))) parts.0 in
       after_nothing b (cs ++ more) (holding (x ∷ xs)) (holding (x ∷ (xs ++ b ∷ []))) (content_byte x xs b (not_of (ends_string (x ∷ xs) b) tests.0) tests.1)
       ∙ through x (xs ++ b ∷ []) cs more parts.1
-      ∙ ap (λ ys. output_of more (holding (x ∷ ys))) (append_assoc xs (b ∷ []) cs)
+      ∙ ap (λ ys. keys_of more (holding (x ∷ ys))) (append_assoc xs (b ∷ []) cs)
 
   -- the end
-  abbrev out : List ℕ
-  out = apart_from is_open []
+  by_bel : (x : ℕ) (xs : List ℕ) → keys_of (0x07 ∷ []) (holding (x ∷ xs)) ≡ []
+  by_bel x xs = refl
 
-  ended : (held : List ℕ) → (after_whole (holding held)).output ++ [] ≡ out
-  ended held = append-nil (after_whole (holding held)).output ∙ ap (λ xs. out ++ xs) (quiet by_delete (rest_behind rest out)) ∙ append-nil out
-
-  by_bel : (x : ℕ) (xs : List ℕ) → output_of (0x07 ∷ []) (holding (x ∷ xs)) ≡ out
-  by_bel x xs = ended (x ∷ xs)
-
-  by_backslash : (x : ℕ) (xs : List ℕ) → ends_by_escape (x ∷ xs) ≡ true → output_of (0x5C ∷ []) (holding (x ∷ xs)) ≡ out
+  by_backslash : (x : ℕ) (xs : List ℕ) → ends_by_escape (x ∷ xs) ≡ true → keys_of (0x5C ∷ []) (holding (x ∷ xs)) ≡ []
   by_backslash x xs h =
-      ap (λ (z : Translated). z.output ++ (after_all_typed [] z.state).output)
+      ap (λ (z : Moved). z.keys ++ (after_all [] z.machine).keys)
       (cond-true (ends_string (x ∷ xs) 0x5C) (after_whole (holding (x ∷ xs))) (after_held (x ∷ (xs ++ 0x5C ∷ [])) (holding (x ∷ xs))) h)
-      ∙ ended (x ∷ xs)
 
-  by_escape : (x : ℕ) (xs : List ℕ) → length xs ≤ 4096 → output_of (0x1B ∷ 0x5C ∷ []) (holding (x ∷ xs)) ≡ out
+  by_escape : (x : ℕ) (xs : List ℕ) → length xs ≤ 4096 → keys_of (0x1B ∷ 0x5C ∷ []) (holding (x ∷ xs)) ≡ []
   by_escape x xs l =
       let last : ends_by_escape (x ∷ (xs ++ 0x1B ∷ [])) ≡ true = last_is (x ∷ xs) 0x1B in
       after_nothing 0x1B (0x5C ∷ []) (holding (x ∷ xs)) (holding (x ∷ (xs ++ 0x1B ∷ []))) (content_byte x xs 0x1B refl (short_escape (x ∷ xs) (omega (arith, l))))
       ∙ by_backslash x (xs ++ 0x1B ∷ []) last
 
-  by_end : (x : ℕ) (xs end : List ℕ) → length xs ≤ 4096 → IsEnd end → output_of end (holding (x ∷ xs)) ≡ out
-  by_end x xs end l (inl bel) = ap (λ bs. output_of bs (holding (x ∷ xs))) bel ∙ by_bel x xs
-  by_end x xs end l (inr escape) = ap (λ bs. output_of bs (holding (x ∷ xs))) escape ∙ by_escape x xs l
+  by_end : (x : ℕ) (xs end : List ℕ) → length xs ≤ 4096 → IsEnd end → keys_of end (holding (x ∷ xs)) ≡ []
+  by_end x xs end l (inl bel) = ap (λ bs. keys_of bs (holding (x ∷ xs))) bel ∙ by_bel x xs
+  by_end x xs end l (inr escape) = ap (λ bs. keys_of bs (holding (x ∷ xs))) escape ∙ by_escape x xs l
 
-  introduced : (introducer : ℕ) → is_introducer introducer ≡ true → after_typed introducer (holding []) ≡ nothing (holding (introducer ∷ []))
-  introduced introducer h = cond-true (is_introducer introducer) (nothing (holding (introducer ∷ []))) (after_fed introducer (holding [])) h
+  introduced : (introducer : ℕ) → is_introducer introducer ≡ true → after_typed introducer (holding []) ≡ quiet (holding (introducer ∷ []))
+  introduced introducer h = cond-true (is_introducer introducer) (quiet (holding (introducer ∷ []))) (after_scanned introducer (holding [])) h
 
 no_escape : (introducer : ℕ) → is_introducer introducer ≡ true → nat_eq introducer 0x1B ≡ false
 no_escape introducer h = grind (arith, nat_tests)
@@ -161,13 +144,11 @@ first_no_backslash introducer (b ∷ cs) h =
     ap (λ t. not (nat_eq b 0x5C && t)) (last_is [] introducer ∙ no_escape introducer h) ∙ never (nat_eq b 0x5C)
 
 pub strings_give_nothing : StringsGiveNothing
-strings_give_nothing by_delete is_open pause rest content end introducer is has is_end =
+strings_give_nothing by_delete pause rest content end introducer is has is_end =
     let more : List ℕ = content ++ end in
     let goes : goes_on (introducer ∷ []) content ≡ true =
     content_goes (introducer ∷ []) content (omega (arith, has.short)) (first_no_backslash introducer content is) has.no_end in
-    after_nothing by_delete is_open rest 0x1B (introducer ∷ more) (idle_translating by_delete is_open pause rest) (holding by_delete is_open rest [])
-    (escape_read by_delete is_open pause rest)
-    ∙ after_nothing by_delete is_open rest introducer more (holding by_delete is_open rest []) (holding by_delete is_open rest (introducer ∷ []))
-    (introduced by_delete is_open rest introducer is)
-    ∙ through by_delete is_open rest introducer [] content end goes
-    ∙ by_end by_delete is_open rest introducer content end has.short is_end
+    after_nothing by_delete rest 0x1B (introducer ∷ more) (idle_machine by_delete pause rest) (holding by_delete rest []) (escape_read by_delete rest pause)
+    ∙ after_nothing by_delete rest introducer more (holding by_delete rest []) (holding by_delete rest (introducer ∷ [])) (introduced by_delete rest introducer is)
+    ∙ through by_delete rest introducer [] content end goes
+    ∙ by_end by_delete rest introducer content end has.short is_end

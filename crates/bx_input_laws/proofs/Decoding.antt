@@ -1,24 +1,21 @@
--- The editor's decoder, where bytes begin anew and where text comes.
-use Rattle.std.proofs.Common.{◌≡◌, ◌≢◌, ℕ, inl, inr, Bool, true, false, nat_eq, List, [], ◌∷◌, ◌++◌, get_or, Option, Some, None, refl, ap, sym, ◌∙◌, append_assoc, subst, arith}
+-- The grammar of items, where a character begins anew and where text comes.
+use Rattle.std.proofs.Common.{◌≡◌, ◌≢◌, ℕ, Bool, true, false, nat_eq, List, [], ◌∷◌, ◌++◌, get_or, Option, Some, None, refl, ap, sym, ◌∙◌, append_assoc, subst, arith}
 use Rattle.std.specs.Option.{option_to_list}
 use Rattle.std.specs.List.{list_all}
 use Rattle.std.specs.Str.{chars}
-use Rattle.std.proofs.lemmas.Bool.{cases_eq, and_from, and_parts}
+use Rattle.std.proofs.lemmas.Bool.{and_from, and_parts}
 use Rattle.std.proofs.lemmas.Bool.Decides.{nat_tests}
 use Rattle.std.proofs.lemmas.List.{append-nil}
 use Rattle.std.proofs.lemmas.List.Folds.{list_all-append}
-use Rattle.bx_bytes.specs.Pattern.{is_within}
 use Rattle.bx_bytes.specs.Utf8.{characters}
 use Rattle.bx_bytes.specs.declared.fate.Fate.{Fate}
 use Rattle.bx_bytes.specs.declared.fate.Fate.TheVariants.{Waits, Ends, Breaks}
-use Rattle.bx_keys.specs.Items.{items}
 use Rattle.bx_keys.specs.Keys.{Decoding, decoding, key_of, single_key, character_key, key_after, rest_after}
 use Rattle.bx_keys.specs.Waiting.{fate}
 use Rattle.bx_keys.specs.declared.key.Key.{Key}
 use Rattle.bx_keys.proofs.Cuts.{in_pieces, one_key, rest_waits}
 use Rattle.bx_keys.proofs.Feeding.{broken_decoding, feeds_waiting, feeds_end, feeds_break, feeds_alone, waits_decoding}
 use Rattle.bx_keys.proofs.Characters.{no_escape}
-use Rattle.bx_keys.proofs.Sequences.{control_more, shift_more, long_more}
 use Rattle.bx_input_laws.specs.Laws.{is_text_byte, IsText, is_insert}
 use Rattle.bx_input_laws.proofs.Firsts.{lacks_after_first, breaks_at}
 
@@ -38,12 +35,6 @@ broken_anew rest b more h =
     ∙ ap (λ d. after_keys d more) h
     ∙ sym (in_pieces (b ∷ []) more)
 
--- ESC and CAN, whatever waits
-pub anew : (rest : List ℕ) (b : ℕ) (more : List ℕ) → list_all (lacks_after_first b) items ≡ true → fate rest ≡ Waits
-    → decoding (rest ++ b ∷ more) ≡ decoding (b ∷ more)
-anew [] b more l h = refl
-anew (x ∷ xs) b more l h = broken_anew (x ∷ xs) b more (broken_decoding (x ∷ xs) b h (breaks_at items x xs b l))
-
 -- a byte that no character has but as its first, where no escape sequence waits
 pub anew_in_text : (rest : List ℕ) (b : ℕ) (more : List ℕ) → list_all (lacks_after_first b) characters ≡ true → fate rest ≡ Waits → IsFree rest
     → decoding (rest ++ b ∷ more) ≡ decoding (b ∷ more)
@@ -52,13 +43,7 @@ anew_in_text (x ∷ xs) b more l h n =
     let breaks : fate (x ∷ (xs ++ b ∷ [])) ≡ Breaks = no_escape x (xs ++ b ∷ []) n ∙ breaks_at characters x xs b l in
     broken_anew (x ∷ xs) b more (broken_decoding (x ∷ xs) b h breaks)
 
-pub after_can : (more : List ℕ) → decoding (0x18 ∷ more) ≡ decoding more
-after_can more = in_pieces (0x18 ∷ []) more
-
 -- ---- the bytes that wait after a byte
-
-not_escape : (b : ℕ) → b ≢ 0x1B → IsFree (b ∷ [])
-not_escape b n = n
 
 alone_by : (f : Fate) (b : ℕ) → fate (b ∷ []) ≡ f → b ≢ 0x1B → IsFree (rest_after [] b)
 alone_by Waits b h n = subst IsFree (sym (feeds_waiting [] b h).is_rest) n
@@ -74,40 +59,7 @@ free_by Waits rest b w h ends n = absurd (ends refl)
 free_by Ends rest b w h ends n = subst IsFree (sym (feeds_end rest b h).is_rest) (λ e. omega (arith, e))
 free_by Breaks rest b w h ends n = subst IsFree (sym (feeds_break rest b w h).is_rest) (alone_free b n)
 
--- a byte that may not be within a sequence
-pub record IsOutside (rest : List ℕ) (b : ℕ) : Type 0 where
-  pub not_within : is_within 0x20 0x3F b ≡ false
-  pub not_escape : b ≢ 0x1B
-  pub not_csi : rest ≡ 0x1B ∷ [] → b ≢ 0x5B
-  pub not_ss3 : rest ≡ 0x1B ∷ [] → b ≢ 0x4F
-
-ends_escape : (b : ℕ) → is_within 0x20 0x3F b ≡ false → b ≢ 0x5B → b ≢ 0x4F → fate (0x1B ∷ b ∷ []) ≢ Waits
-ends_escape b o csi ss3 h = grind (arith, nat_tests)
-
-ends_csi : (b : ℕ) → is_within 0x20 0x3F b ≡ false → fate (0x1B ∷ 0x5B ∷ b ∷ []) ≢ Waits
-ends_csi b o h = grind (arith, nat_tests)
-
-ends_ss3 : (b : ℕ) → fate (0x1B ∷ 0x4F ∷ b ∷ []) ≢ Waits
-ends_ss3 b h = grind (arith, nat_tests)
-
-ends_long : (b : ℕ) → is_within 0x20 0x3F b ≡ false → fate (0x1B ∷ 0x20 ∷ b ∷ []) ≢ Waits
-ends_long b o h = grind (arith, nat_tests)
-
-ends_sequence : (xs : List ℕ) (b : ℕ) → fate (0x1B ∷ xs) ≡ Waits → IsOutside (0x1B ∷ xs) b → fate (0x1B ∷ (xs ++ b ∷ [])) ≢ Waits
-ends_sequence [] b w o h = ends_escape b o.not_within (o.not_csi refl) (o.not_ss3 refl) h
-ends_sequence (x ∷ xs) b w o h = elim (cases_eq x 0x5B) [
-  | inl csi ↦ ends_csi b o.not_within (sym (control_more (x ∷ xs) b (omega arith) csi w) ∙ h)
-  | inr other ↦ elim (cases_eq x 0x4F) [
-    | inl ss3 ↦ ends_ss3 b (sym (shift_more (x ∷ xs) b (omega arith) ss3 w) ∙ h)
-    | inr long ↦ ends_long b o.not_within (sym (long_more (x ∷ xs) b (omega arith) other long w) ∙ h)
-  ]
-]
-
--- an escape sequence is over then
-pub sequence_over : (xs : List ℕ) (b : ℕ) → fate (0x1B ∷ xs) ≡ Waits → IsOutside (0x1B ∷ xs) b → IsFree (rest_after (0x1B ∷ xs) b)
-sequence_over xs b w o = free_by (fate (0x1B ∷ (xs ++ b ∷ []))) (0x1B ∷ xs) b w refl (λ e. ends_sequence xs b w o e) o.not_escape
-
--- and where none is, none begins
+-- where no escape sequence is, none begins
 still_free_by : (f : Fate) (rest : List ℕ) (b : ℕ) → fate rest ≡ Waits → fate (rest ++ b ∷ []) ≡ f → IsFree rest → b ≢ 0x1B → IsFree (rest_after rest b)
 still_free_by Waits [] b w h free n = subst IsFree (sym (feeds_waiting [] b h).is_rest) n
 still_free_by Waits (x ∷ xs) b w h free n = subst IsFree (sym (feeds_waiting (x ∷ xs) b h).is_rest) free

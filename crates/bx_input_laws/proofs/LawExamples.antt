@@ -1,5 +1,5 @@
--- A row that follows from each law alone, and from the contract of a run.
-use Rattle.std.proofs.Common.{◌≡◌, ◌≢◌, ℕ, ◌≤◌, inr, Bool, true, false, not, ◌&&◌, nat_eq, List, [], ◌∷◌, ◌++◌, length}
+-- A row that follows from each law alone.
+use Rattle.std.proofs.Common.{◌≡◌, ◌≢◌, ℕ, ◌≤◌, inr, Bool, true, false, not, ◌&&◌, nat_eq, List, [], ◌∷◌, ◌++◌, length, map}
 use Rattle.std.proofs.Common.{refl, ap, sym, ◌∙◌, subst, arith}
 use Rattle.std.specs.Prelude.{codes, unwrap_or}
 use Rattle.std.specs.List.{AllByRecursion, list_all}
@@ -10,20 +10,24 @@ use Rattle.std.proofs.lemmas.List.Folds.{list_all-append}
 use lib.Utf8.{encode}
 use Rattle.bx_bytes.specs.Pattern.{Piece, One, Many, is_within, matches, matches_any}
 use Rattle.bx_keys.specs.Keys.{decoding}
-use Rattle.bx_keys.specs.declared.key.Key.TheVariants.{Insert, EraseWord, ErasePoint, LineUp, Left, Select, PasteStart, PasteEnd, Point, Size, Fill}
+use Rattle.bx_keys.specs.declared.key.Key.{Key}
+use Rattle.bx_keys.specs.declared.key.Key.TheVariants.{Insert, EraseWord, ErasePoint, LineUp, Left, Quit, Save, Select, PasteStart, PasteEnd, Point, Size, Fill}
 use Rattle.bx_input.specs.Table.{Row, rows, row_of, sequences, exact, paste_start, paste_end}
 use Rattle.bx_input.specs.Paste.{kept_characters, pasted}
-use Rattle.bx_input.specs.Filter as filter
-use Rattle.bx_input.specs.Filter.{State, Outside, Within, Step, step_to, start, at_end}
+use Rattle.bx_input.specs.Scan as scan
+use Rattle.bx_input.specs.Scan.{State, Outside, Within, Part, Passed, Known, passed, Step, step_to, start, at_end}
 use Rattle.bx_input.specs.Mouse.{opens_report}
 use Rattle.bx_input.specs.Sizes.{opens_size}
-use Rattle.bx_input.specs.Translating.{after_all_typed}
+use Rattle.bx_input.specs.Machine as machine
+use Rattle.bx_input.specs.Machine.{Event, Typed, Notice, Machine, Moved, after_all, read}
 use Rattle.bx_input.specs.declared.pause.Pause.TheVariants as pauses
-use Rattle.bx_input_laws.specs.Strings.{StringsGiveNothing, idle_translating}
-use Rattle.bx_input_laws.specs.Laws.{AddsReportKeys, AddsSizeKeys, HasNoReport, HasNoSize, is_report, is_size_sequence}
-use Rattle.bx_input_laws.specs.Laws.{ComesInPieces, WaitsForFifteen, waiting_in, BecomesRow, HasNone, OthersPass, PastesText, IsText, PastesAreClean}
-use Rattle.bx_input_laws.specs.Laws.{GrowsSixTimes, GrowsByTenThirds}
-use Rattle.bx_input_laws.specs.Laws.{HasKeys, AddsKeys, has_short, HasNoShort, GrowsByThreeFourths, PastesInsert, PastesKeepCharacters}
+use Rattle.bx_input_laws.specs.Events.{EventsComeInPieces}
+use Rattle.bx_input_laws.specs.Hearing.{after_frames}
+use Rattle.bx_input_laws.specs.Reading.{FramesAreRead, IsRead, KeysAreRead}
+use Rattle.bx_input_laws.specs.Strings.{StringsGiveNothing, idle_machine}
+use Rattle.bx_input_laws.specs.Laws as laws
+use Rattle.bx_input_laws.specs.Laws.{AddsKeys, AddsReportKeys, AddsSizeKeys, AreText, ComesInPieces, GivesRow, HasNone, HasNoReport, HasNoSize, IsText, OthersPass}
+use Rattle.bx_input_laws.specs.Laws.{PassedAreDecoded, PastesAreClean, PastesInsert, PastesKeepCharacters, PastesText, WaitsForFifteen, is_report, is_size_sequence, waiting_in}
 
 -- ---- bytes with which no sequence begins
 
@@ -96,164 +100,127 @@ no_size bs n front middle back cut =
     let within = and_parts (list_all no_escape middle) (list_all no_escape back) (sym (list_all-append no_escape middle back) ∙ behind.1) in
     lacks_size middle within.0
 
--- ---- bytes of which no part is a short row's
-
-abbrev all_fronts : (List ℕ → Bool) → List ℕ → Bool
-all_fronts p [] = p []
-all_fronts p (b ∷ bs) = p [] && all_fronts (λ xs. p (b ∷ xs)) bs
-
-abbrev all_parts : (List ℕ → Bool) → List ℕ → Bool
-all_parts p [] = p []
-all_parts p (b ∷ bs) = all_fronts p (b ∷ bs) && all_parts p bs
-
-at_front : (p : List ℕ → Bool) (middle back : List ℕ) → all_fronts p (middle ++ back) ≡ true → p middle ≡ true
-at_front p [] [] h = h
-at_front p [] (b ∷ back) h = (and_parts (p []) (all_fronts (λ xs. p (b ∷ xs)) back) h).0
-at_front p (m ∷ middle) back h = at_front (λ xs. p (m ∷ xs)) middle back (and_parts (p []) (all_fronts (λ xs. p (m ∷ xs)) (middle ++ back)) h).1
-
-fronts_of : (p : List ℕ → Bool) (bs : List ℕ) → all_parts p bs ≡ true → all_fronts p bs ≡ true
-fronts_of p [] h = h
-fronts_of p (b ∷ bs) h = (and_parts (all_fronts p (b ∷ bs)) (all_parts p bs) h).0
-
-at_part : (p : List ℕ → Bool) (front middle back : List ℕ) → all_parts p (front ++ (middle ++ back)) ≡ true → p middle ≡ true
-at_part p [] middle back h = at_front p middle back (fronts_of p (middle ++ back) h)
-at_part p (b ∷ front) middle back h =
-    at_part p front middle back (and_parts (all_fronts p (b ∷ (front ++ (middle ++ back)))) (all_parts p (front ++ (middle ++ back))) h).1
-
-abbrev is_long : List ℕ → Bool
-is_long bs = not (has_short (row_of false bs))
-
-no_short : (bs : List ℕ) → all_parts is_long bs ≡ true → HasNoShort false bs
-no_short bs h front middle back e =
-    not-true (has_short (row_of false middle)) (at_part is_long front middle back (ap (all_parts is_long) (sym e) ∙ h))
-
--- ---- the filter
+-- ---- the laws
 
 -- where the terminal's own erase character is another than DELETE
 abbrev run : State → List ℕ → Step
-run = filter.run false
+run = scan.run false
 
-abbrev filtered : List ℕ → List ℕ
-filtered = filter.filtered false
+abbrev scanned : List ℕ → List Part
+scanned = scan.scanned false
+
+abbrev keys : List ℕ → List Key
+keys = laws.keys false
 
 -- Shift and Up, of which the letter comes later
-pub of_in_any_pieces : ComesInPieces false → (bs : List ℕ) → (run start bs).state ≡ Outside (codes "\u{1b}[1;2") false
-    → (run start (bs ++ codes "A")).output ≡ (run start bs).output ++ codes "\u{1b}[81~\u{1b}[96~"
+pub of_in_any_pieces : ComesInPieces false → (bs : List ℕ) → (run start bs).state ≡ Outside (codes "\u{1b}[1;2")
+    → (run start (bs ++ codes "A")).parts ≡ (run start bs).parts ++ Known (Select ∷ LineUp ∷ []) ∷ []
 of_in_any_pieces law bs e =
-    ap (λ (x : Step). x.output) (law start bs (codes "A")) ∙ ap (λ s. (run start bs).output ++ (run s (codes "A")).output) e
+    ap (λ (x : Step). x.parts) (law start bs (codes "A")) ∙ ap (λ s. (run start bs).parts ++ (run s (codes "A")).parts) e
 
 -- the longest sequence never waits whole
-pub of_waits_for_nine : WaitsForFifteen false → (bs : List ℕ) → (run start bs).state ≢ Outside (codes "\u{1b}[27;5;39~") false
+pub of_waits_for_nine : WaitsForFifteen false → (bs : List ℕ) → (run start bs).state ≢ Outside (codes "\u{1b}[27;5;39~")
 of_waits_for_nine law bs e =
     let short : opens_report (codes "\u{1b}[27;5;39~") ≡ false → opens_size (codes "\u{1b}[27;5;39~") ≡ false → 10 ≤ 9 =
     subst (λ s. opens_report (waiting_in s) ≡ false → opens_size (waiting_in s) ≡ false → length (waiting_in s) ≤ 9) e (law bs).1 in
     omega (arith, short refl refl)
 
 -- nor does a size with more than its numbers
-pub of_waits_for_fifteen : WaitsForFifteen false → (bs : List ℕ) → (run start bs).state ≢ Outside (codes "\u{1b}[8;000000;00000") false
+pub of_waits_for_fifteen : WaitsForFifteen false → (bs : List ℕ) → (run start bs).state ≢ Outside (codes "\u{1b}[8;000000;00000")
 of_waits_for_fifteen law bs e = let short : 16 ≤ 15 = subst (λ s. length (waiting_in s) ≤ 15) e (law bs).0 in omega (arith, short)
 
--- a paste does not save: CTRL-S does not go out
+-- a paste does not save: CTRL-S does not pass on
 pub of_clean_byte : PastesAreClean false → (waiting : List ℕ) (after_return : Bool) (b : ℕ) → waiting ++ b ∷ [] ≢ paste_end
-    → (filter.step false (Within waiting after_return) b).output ≢ 0x13 ∷ []
-of_clean_byte law waiting after_return b other e = both_ways _ refl (subst IsText e (law.each_byte waiting after_return b other))
+    → (scan.step false (Within waiting after_return) b).parts ≢ Passed 0x13 ∷ []
+of_clean_byte law waiting after_return b other e = both_ways _ refl (subst AreText e (law.each_byte waiting after_return b other))
+
+-- nor is a key of the table known within it, as Quit
+pub of_clean_key : PastesAreClean false → (waiting : List ℕ) (after_return : Bool) (b : ℕ) → waiting ++ b ∷ [] ≢ paste_end
+    → (scan.step false (Within waiting after_return) b).parts ≢ Known (Quit ∷ []) ∷ []
+of_clean_key law waiting after_return b other e = both_ways _ refl (subst AreText e (law.each_byte waiting after_return b other))
 
 -- its last byte gives PasteEnd
-pub of_clean_last : PastesAreClean false → (after_return : Bool) → filter.step false (Within (codes "\u{1b}[201") after_return) 0x7E ≡ step_to start (codes "\u{1b}[91~")
+pub of_clean_last : PastesAreClean false → (after_return : Bool)
+    → scan.step false (Within (codes "\u{1b}[201") after_return) 0x7E ≡ step_to start (Known (PasteEnd ∷ []) ∷ [])
 of_clean_last law after_return = law.last_byte (codes "\u{1b}[201") after_return 0x7E refl
 
--- a mark that is incomplete at the input's end goes out without its ESC
-pub of_clean_end : PastesAreClean false → (waiting : List ℕ) (after_return : Bool) → at_end (Within waiting after_return) ≢ codes "\u{1b}[20"
-of_clean_end law waiting after_return e = both_ways _ refl (subst IsText e (law.input_ends waiting after_return))
+-- a mark that is incomplete at the input's end passes on without its ESC
+pub of_clean_end : PastesAreClean false → (waiting : List ℕ) (after_return : Bool) → at_end (Within waiting after_return) ≢ passed (codes "\u{1b}[20")
+of_clean_end law waiting after_return e = both_ways _ refl (subst AreText e (law.input_ends waiting after_return))
 
 pub of_clean_text : PastesAreClean false → (text : List ℕ) → pasted text ≢ codes "a\u{11}"
 of_clean_text law text e = both_ways _ refl (subst IsText e (law.whole text))
 
 -- the row of a sequence, and of a byte
 abbrev row_by : List ℕ → Row
-row_by bs = unwrap_or (row_of false bs) (record { sequence = []; becomes = []; selects = false; key = ErasePoint })
+row_by bs = unwrap_or (row_of false bs) (record { sequence = []; selects = false; key = ErasePoint })
 
 abbrev row_at : ℕ → Row
 row_at b = row_by (b ∷ [])
 
 -- Up
-pub of_rows_become : AllByRecursion (BecomesRow false) (rows false) → (bs : List ℕ) → (run start bs).state ≡ start
-    → run start (bs ++ codes "\u{1b}[A") ≡ step_to start (filtered bs ++ codes "\u{1b}[96~")
-of_rows_become law bs e = law.0 bs [] false e
+pub of_rows_are_known : GivesRow false (row_by (codes "\u{1b}[A")) → (bs : List ℕ) → (run start bs).state ≡ start
+    → run start (bs ++ codes "\u{1b}[A") ≡ step_to start (scanned bs ++ Known (LineUp ∷ []) ∷ [])
+of_rows_are_known law bs e = law bs [] e
 
--- whatever waits, ESC too, goes out before it
-pub of_rows_become_behind : AllByRecursion (BecomesRow false) (rows false) → (bs waiting : List ℕ) → (run start bs).state ≡ Outside waiting true
-    → run start (bs ++ codes "\u{1b}[A") ≡ step_to start (filtered bs ++ codes "\u{1b}[96~")
-of_rows_become_behind law bs waiting e = law.0 bs waiting true e
+-- the first row of all, whatever waits but an ESC: Backspace
+pub of_first_row : AllByRecursion (GivesRow false) (rows false) → (bs : List ℕ) → (run start bs).state ≡ Outside (codes "\u{1b}[1;5")
+    → run start (bs ++ 0x08 ∷ []) ≡ step_to start (scanned bs ++ Known (ErasePoint ∷ []) ∷ [])
+of_first_row law bs e = law.0 bs (codes "\u{1b}[1;5") e
 
 -- an ESC that waits belongs to DELETE
-pub of_rows_become_longer : BecomesRow false (row_at 0x7F) → (bs : List ℕ) → (run start bs).state ≡ Outside (0x1B ∷ []) false
-    → run start (bs ++ 0x7F ∷ []) ≡ step_to start ((run start bs).output ++ codes "\u{1b}[88~")
-of_rows_become_longer law bs e = law bs (0x1B ∷ []) false e ∙ ap (λ xs. step_to start (xs ++ codes "\u{1b}[88~")) (append-nil (run start bs).output)
+pub of_longer_rows : GivesRow false (row_at 0x7F) → (bs : List ℕ) → (run start bs).state ≡ Outside (0x1B ∷ [])
+    → run start (bs ++ 0x7F ∷ []) ≡ step_to start ((run start bs).parts ++ Known (EraseWord ∷ []) ∷ [])
+of_longer_rows law bs e = law bs (0x1B ∷ []) e ∙ ap (λ xs. step_to start (xs ++ Known (EraseWord ∷ []) ∷ [])) (append-nil (run start bs).parts)
 
 -- of two that wait, the second
-pub of_rows_become_second : BecomesRow false (row_at 0x7F) → (bs : List ℕ) → (run start bs).state ≡ Outside (0x1B ∷ 0x1B ∷ []) false
-    → run start (bs ++ 0x7F ∷ []) ≡ step_to start (((run start bs).output ++ 0x1B ∷ []) ++ codes "\u{1b}[88~")
-of_rows_become_second law bs e = law bs (0x1B ∷ 0x1B ∷ []) false e
+pub of_second_escapes : GivesRow false (row_at 0x7F) → (bs : List ℕ) → (run start bs).state ≡ Outside (0x1B ∷ 0x1B ∷ [])
+    → run start (bs ++ 0x7F ∷ []) ≡ step_to start (((run start bs).parts ++ Passed 0x1B ∷ []) ++ Known (EraseWord ∷ []) ∷ [])
+of_second_escapes law bs e = law bs (0x1B ∷ 0x1B ∷ []) e
 
 -- input without ESC and the control characters of the table
-pub of_others_pass : OthersPass false → (bs : List ℕ) → list_all (begins_none sequences) bs ≡ true → list_all no_escape bs ≡ true → filtered bs ≡ bs
+pub of_others_pass : OthersPass false → (bs : List ℕ) → list_all (begins_none sequences) bs ≡ true → list_all no_escape bs ≡ true → scanned bs ≡ passed bs
 of_others_pass law bs n m = law bs (no_sequence sequences bs refl n) (no_report bs m) (no_size bs m)
 
 -- a letter, CTRL-Q, CTRL-S and a line feed
-pub of_others_pass_text : OthersPass false → filtered (codes "a\u{11}\u{13}\n") ≡ codes "a\u{11}\u{13}\n"
-of_others_pass_text law = of_others_pass law (codes "a\u{11}\u{13}\n") refl refl
+pub of_others_pass_text : OthersPass false → PassedAreDecoded → keys (codes "a\u{11}\u{13}\n") ≡ Insert 0x61 ∷ Quit ∷ Save ∷ Insert 0x0A ∷ []
+of_others_pass_text law decoded =
+    ap (λ parts. (read [] parts).keys) (of_others_pass law (codes "a\u{11}\u{13}\n") refl refl) ∙ decoded (codes "a\u{11}\u{13}\n")
 
--- CTRL-A
-pub of_grows_six_times : GrowsSixTimes false → length (filtered (codes "\u{1}")) ≤ 6
-of_grows_six_times law = law (codes "\u{1}")
-
--- Shift and Up in three bytes
-pub of_grows_by_ten_thirds : GrowsByTenThirds false → length (filtered (codes "\u{1b}[a")) ≤ 10
-of_grows_by_ten_thirds law = omega (arith, law (codes "\u{1b}[a") refl)
-
--- a size in eight bytes
-pub of_grows_by_three_fourths : GrowsByThreeFourths false → length (filtered (codes "\u{1b}[8;2;3t")) ≤ 14
-of_grows_by_three_fourths law = omega (arith, law (codes "\u{1b}[8;2;3t") (no_short (codes "\u{1b}[8;2;3t") refl))
-
-pub of_rows_have_keys : AllByRecursion HasKeys (rows false) → decoding (codes "\u{1b}[96~") ≡ record { keys = LineUp ∷ []; rest = [] }
-of_rows_have_keys law = law.0
-
-pub of_rows_add_keys : AllByRecursion (AddsKeys false) (rows false) → (bs : List ℕ) → (run start bs).state ≡ start
-    → (decoding (filtered (bs ++ codes "\u{1b}[A"))).keys ≡ (decoding (filtered bs)).keys ++ LineUp ∷ []
-of_rows_add_keys law bs e = law.0 bs [] false e
+pub of_rows_add_keys : AddsKeys false (row_by (codes "\u{1b}[A")) → (bs : List ℕ) → (run start bs).state ≡ start
+    → keys (bs ++ codes "\u{1b}[A") ≡ keys bs ++ LineUp ∷ []
+of_rows_add_keys law bs e = law bs [] e
 
 -- Shift and Left, of rxvt
 pub of_rows_add_two : AddsKeys false (row_by (codes "\u{1b}[d")) → (bs : List ℕ) → (run start bs).state ≡ start
-    → (decoding (filtered (bs ++ codes "\u{1b}[d"))).keys ≡ (decoding (filtered bs)).keys ++ Select ∷ Left ∷ []
-of_rows_add_two law bs e = law bs [] false e
+    → keys (bs ++ codes "\u{1b}[d") ≡ keys bs ++ Select ∷ Left ∷ []
+of_rows_add_two law bs e = law bs [] e
 
 -- DELETE alone, and behind an ESC
-pub of_rows_add_point : AddsKeys false (row_at 0x7F) → (bs : List ℕ) → (run start bs).state ≡ start
-    → (decoding (filtered (bs ++ 0x7F ∷ []))).keys ≡ (decoding (filtered bs)).keys ++ ErasePoint ∷ []
-of_rows_add_point law bs e = law bs [] false e
+pub of_rows_add_point : AddsKeys false (row_at 0x7F) → (bs : List ℕ) → (run start bs).state ≡ start → keys (bs ++ 0x7F ∷ []) ≡ keys bs ++ ErasePoint ∷ []
+of_rows_add_point law bs e = law bs [] e
 
-pub of_rows_add_word : AddsKeys false (row_at 0x7F) → (bs : List ℕ) → (run start bs).state ≡ Outside (0x1B ∷ []) false
-    → (decoding (filtered (bs ++ 0x7F ∷ []))).keys ≡ (decoding (filtered bs)).keys ++ EraseWord ∷ []
-of_rows_add_word law bs e = law bs (0x1B ∷ []) false e
+pub of_rows_add_word : AddsKeys false (row_at 0x7F) → (bs : List ℕ) → (run start bs).state ≡ Outside (0x1B ∷ [])
+    → keys (bs ++ 0x7F ∷ []) ≡ keys bs ++ EraseWord ∷ []
+of_rows_add_word law bs e = law bs (0x1B ∷ []) e
 
 -- a press with Shift, which selects, and a button that is let go
 pub of_reports_add_keys : AddsReportKeys false → (bs : List ℕ) → (run start bs).state ≡ start
-    → (decoding (filtered (bs ++ codes "\u{1b}[<4;3;2M"))).keys ≡ (decoding (filtered bs)).keys ++ Select ∷ Point 2 3 ∷ []
-of_reports_add_keys law bs e = law bs [] (codes "4;3;2M") false (record { button = 4; column = codes "3"; row = codes "2"; is_release = false }) e refl
+    → keys (bs ++ codes "\u{1b}[<4;3;2M") ≡ keys bs ++ Select ∷ Point 2 3 ∷ []
+of_reports_add_keys law bs e = law bs [] (codes "4;3;2M") (record { button = 4; column = 3; row = 2; is_release = false }) e refl
 
-pub of_reports_add_none : AddsReportKeys false → (bs waiting : List ℕ) (is_open : Bool) → (run start bs).state ≡ Outside waiting is_open
-    → (decoding (filtered (bs ++ codes "\u{1b}[<0;3;2m"))).keys ≡ (decoding (filtered bs)).keys ++ []
-of_reports_add_none law bs waiting is_open e =
-    law bs waiting (codes "0;3;2m") is_open (record { button = 0; column = codes "3"; row = codes "2"; is_release = true }) e refl
+pub of_reports_add_none : AddsReportKeys false → (bs waiting : List ℕ) → (run start bs).state ≡ Outside waiting
+    → keys (bs ++ codes "\u{1b}[<0;3;2m") ≡ keys bs ++ []
+of_reports_add_none law bs waiting e = law bs waiting (codes "0;3;2m") (record { button = 0; column = 3; row = 2; is_release = true }) e refl
 
 pub of_sizes_add_keys : AddsSizeKeys false → (bs : List ℕ) → (run start bs).state ≡ start
-    → (decoding (filtered (bs ++ codes "\u{1b}[8;24;80t"))).keys ≡ (decoding (filtered bs)).keys ++ Size 24 80 ∷ Fill ∷ []
-of_sizes_add_keys law bs e = law bs [] (codes "24") (codes "80") false e refl refl
+    → keys (bs ++ codes "\u{1b}[8;24;80t") ≡ keys bs ++ Size 24 80 ∷ Fill ∷ []
+of_sizes_add_keys law bs e = law bs [] (codes "24") (codes "80") e refl refl
 
 -- a paste with CR LF, CTRL-S and a control character of C1
-pub of_pastes_become_text : PastesText false → run start (paste_start ++ (codes "a\r\n\u{13}bÂ\u{85}" ++ paste_end)) ≡ step_to start (codes "\u{1b}[90~a\nb\u{1b}[91~")
-of_pastes_become_text law = law [] [] false (codes "a\r\n\u{13}bÂ\u{85}") refl (no_sequence (exact paste_end ∷ []) (codes "a\r\n\u{13}bÂ\u{85}") refl refl)
+pub of_pastes_become_text : PastesText false → run start (paste_start ++ (codes "a\r\n\u{13}bÂ\u{85}" ++ paste_end))
+    ≡ step_to start (Known (PasteStart ∷ []) ∷ (passed (codes "a\nb") ++ Known (PasteEnd ∷ []) ∷ []))
+of_pastes_become_text law = law [] [] (codes "a\r\n\u{13}bÂ\u{85}") refl (no_sequence (exact paste_end ∷ []) (codes "a\r\n\u{13}bÂ\u{85}") refl refl)
 
 -- a, CR LF, NEXT LINE of C1 and a letter of two bytes
 pub of_pastes_keep_characters : PastesKeepCharacters → (text : List ℕ) → IsUtf8 text → chars text ≡ 0x61 ∷ 0x0D ∷ 0x0A ∷ 0x85 ∷ 0x5D0 ∷ []
@@ -261,14 +228,26 @@ pub of_pastes_keep_characters : PastesKeepCharacters → (text : List ℕ) → I
 of_pastes_keep_characters law text u e = (law text u).1 ∙ ap kept_characters e
 
 pub of_pastes_insert : PastesInsert false
-    → (decoding (filtered (paste_start ++ (codes "a\r\n\u{13}b" ++ paste_end)))).keys ≡ PasteStart ∷ Insert 0x61 ∷ Insert 0x0A ∷ Insert 0x62 ∷ PasteEnd ∷ []
+    → keys (paste_start ++ (codes "a\r\n\u{13}b" ++ paste_end)) ≡ PasteStart ∷ Insert 0x61 ∷ Insert 0x0A ∷ Insert 0x62 ∷ PasteEnd ∷ []
 unfolding chars encode
 of_pastes_insert law =
-    let is = law [] [] false (codes "a\r\n\u{13}b") refl (no_sequence (exact paste_end ∷ []) (codes "a\r\n\u{13}b") refl refl) in
+    let is = law [] [] (codes "a\r\n\u{13}b") refl (no_sequence (exact paste_end ∷ []) (codes "a\r\n\u{13}b") refl refl) in
     is.0 ∙ ap (λ keys. PasteStart ∷ (keys ++ PasteEnd ∷ [])) (is.2 (0x61 ∷ 0x0A ∷ 0x62 ∷ [], (refl, refl)))
 
--- a terminal's answer, where the session is within a key
+-- a terminal's answer within a half-read item
 pub of_strings_give_nothing : StringsGiveNothing
-    → (after_all_typed (codes "\u{1b}]11;rgb:ffff/0000/0000\u{1b}\\") (idle_translating false true pauses.No (codes "\u{1b}[1;5"))).output ≡ 0x18 ∷ []
+    → (after_all (map Typed (codes "\u{1b}]11;rgb:ffff/0000/0000\u{1b}\\")) (idle_machine false pauses.No (codes "\u{1b}[1;5"))).keys ≡ []
 of_strings_give_nothing law =
-    law false true pauses.No (codes "\u{1b}[1;5") (codes "11;rgb:ffff/0000/0000") (codes "\u{1b}\\") 0x5D refl (record { short = omega arith; no_end = refl }) (inr refl)
+    law false pauses.No (codes "\u{1b}[1;5") (codes "11;rgb:ffff/0000/0000") (codes "\u{1b}\\") 0x5D refl (record { short = omega arith; no_end = refl }) (inr refl)
+
+-- two events
+pub of_events_in_any_pieces : EventsComeInPieces → (es : List Event) (m : Machine) → (after_all (es ++ Notice 1 ∷ []) m).keys
+    ≡ (after_all es m).keys ++ (after_all (Notice 1 ∷ []) (after_all es m).machine).keys
+of_events_in_any_pieces law es m = ap (λ (z : Moved). z.keys) (law es (Notice 1 ∷ []) m)
+
+pub of_keys_are_read : KeysAreRead → IsRead (Size 24 80)
+of_keys_are_read law = (law.are (machine.Size 24 80) (machine.begun false) (law.begins false)).0
+
+-- a typed letter
+pub of_frames_are_read : FramesAreRead → decoding (after_frames (record { letter = 0x62; bytes = codes "a" } ∷ []) (machine.begun false)) ≡ record { keys = Insert 0x61 ∷ []; rest = [] }
+of_frames_are_read law = law false (record { letter = 0x62; bytes = codes "a" } ∷ [])

@@ -8,17 +8,18 @@ use Rattle.std.proofs.lemmas.Slice.Eq.{bytes_eq-Decides}
 use Rattle.bx_bytes.specs.Pattern.{matches_any}
 use Rattle.bx_bytes.specs.declared.fate.Fate.{Fate}
 use Rattle.bx_bytes.specs.declared.fate.Fate.TheVariants.{Waits, Ends, Breaks}
-use Rattle.bx_input.specs.Filter as filter
-use Rattle.bx_input.specs.Table.{exact, paste_start, paste_end, start_told, end_told}
+use Rattle.bx_input.specs.Scan as scan
+use Rattle.bx_input.specs.Table.{exact, paste_start, paste_end}
 use Rattle.bx_input.specs.Paste.{is_c1, pasted_byte, pasted_after, pasted, pasted_part, paste_fate, paste_sequences}
-use Rattle.bx_input.specs.Filter.{State, Within, Step, step_to, with_front, ended_in_paste, paste_step_by, fresh_in_paste, start}
+use Rattle.bx_keys.specs.declared.key.Key.TheVariants.{PasteStart, PasteEnd}
+use Rattle.bx_input.specs.Scan.{State, Part, Passed, Known, passed, Within, Step, step_to, with_front, ended_in_paste, paste_step_by, fresh_in_paste, start}
 use Rattle.bx_input.specs.PasteTail.{tail_bytes}
 use Rattle.bx_input_laws.specs.Laws.{HasNone, PastesText}
 use Rattle.bx_input.specs.declared.paste_tail.PasteTail.{PasteTail}
 use Rattle.bx_input.specs.declared.paste_tail.PasteTail.TheVariants as tail
 use Rattle.bx_input_laws.proofs.Firsts.{waits_says, any_fewer, breaks_at}
-use Rattle.bx_input_laws.proofs.Passing.{none_behind, whole_sequence}
-use Rattle.bx_input.proofs.Runs.{in_pieces}
+use Rattle.bx_input_laws.proofs.Passing.{none_behind, passed_joined, whole_sequence}
+use Rattle.bx_input_laws.proofs.Runs.{in_pieces}
 use Rattle.bx_input_laws.proofs.States.{IsSound, run_sound}
 
 -- ---- the waiting bytes
@@ -148,47 +149,47 @@ c1_text : (waiting : List ℕ) (b : ℕ) (bs : List ℕ) (after_return : Bool) �
     → pasted_after false bs ≡ pasted_after after_return (waiting ++ b ∷ bs)
 c1_text waiting b bs after_return h = sym (ap (λ w. pasted_after after_return (w ++ b ∷ bs)) h.0 ∙ cond-true (is_c1 0xC2 b) _ _ h.1)
 
--- ---- the filter's way through the text
+-- ---- the way through the text
 
 pub record IsPasted (s : Step) (text : List ℕ) : Type 0 where
   pub waiting : List ℕ
   pub after_return : Bool
   pub is_state : s.state ≡ Within waiting after_return
-  pub is_text : s.output ++ pasted_part waiting ≡ text
+  pub is_text : s.parts ++ passed (pasted_part waiting) ≡ passed text
 
-in_front : (front : List ℕ) (s : Step) (text : List ℕ) → IsPasted s text → IsPasted (with_front front s) (front ++ text)
+in_front : (front : List ℕ) (s : Step) (text : List ℕ) → IsPasted s text → IsPasted (with_front (passed front) s) (front ++ text)
 in_front front s text h = record {
   waiting = h.waiting;
   after_return = h.after_return;
   is_state = h.is_state;
-  is_text = append_assoc front s.output (pasted_part h.waiting) ∙ ap (λ xs. front ++ xs) h.is_text;
+  is_text = append_assoc (passed front) s.parts (passed (pasted_part h.waiting)) ∙ ap (λ xs. passed front ++ xs) h.is_text ∙ passed_joined front text;
 }
 
 -- ---- whether or not the terminal's own erase character is DELETE
 
 module _ (by_delete : Bool) where
   abbrev step : State → ℕ → Step
-  step = filter.step by_delete
+  step = scan.step by_delete
 
   abbrev run : State → List ℕ → Step
-  run = filter.run by_delete
+  run = scan.run by_delete
 
-  abbrev filtered : List ℕ → List ℕ
-  filtered = filter.filtered by_delete
+  abbrev scanned : List ℕ → List Part
+  scanned = scan.scanned by_delete
 
   -- the output for the rest of the text, in any state within the paste
   abbrev Goes : List ℕ → Type 0
   Goes bs = (w : List ℕ) (r : Bool) → IsSound (Within w r) → HasNone (exact paste_end ∷ []) (w ++ bs) → IsPasted (run (Within w r) bs) (pasted_after r (w ++ bs))
 
   fresh_other : (r : Bool) (b : ℕ) (bs : List ℕ) → (paste_fate (b ∷ []) ≡ Waits → ⊥) → HasNone (exact paste_end ∷ []) (b ∷ bs) → Goes bs
-      → IsPasted (with_front (pasted_byte r b) (run (Within [] (nat_eq b 0x0D)) bs)) (pasted_after r (b ∷ bs))
+      → IsPasted (with_front (passed (pasted_byte r b)) (run (Within [] (nat_eq b 0x0D)) bs)) (pasted_after r (b ∷ bs))
   fresh_other r b bs n none rest =
-      subst (IsPasted (with_front (pasted_byte r b) (run (Within [] (nat_eq b 0x0D)) bs))) (sym (fresh_text b bs r n))
+      subst (IsPasted (with_front (passed (pasted_byte r b)) (run (Within [] (nat_eq b 0x0D)) bs))) (sym (fresh_text b bs r n))
       (in_front (pasted_byte r b) (run (Within [] (nat_eq b 0x0D)) bs) (pasted_after (nat_eq b 0x0D) bs)
       (rest [] (nat_eq b 0x0D) (refl, λ e. refl) (none_behind (exact paste_end ∷ []) (b ∷ []) bs none)))
 
   fresh_by : (f : Fate) (r : Bool) (b : ℕ) (bs : List ℕ) → paste_fate (b ∷ []) ≡ f → HasNone (exact paste_end ∷ []) (b ∷ bs) → Goes bs
-      → IsPasted (with_front (fresh_in_paste f r b).output (run (fresh_in_paste f r b).state bs)) (pasted_after r (b ∷ bs))
+      → IsPasted (with_front (fresh_in_paste f r b).parts (run (fresh_in_paste f r b).state bs)) (pasted_after r (b ∷ bs))
   fresh_by Waits r b bs h none rest =
       subst (IsPasted (run (Within (b ∷ []) false) bs)) (sym (same_text b bs (one_tail b h) r))
       (in_front [] (run (Within (b ∷ []) false) bs) (pasted_after false (b ∷ bs)) (rest (b ∷ []) false (h, λ e. absurd (false≢true e)) none))
@@ -203,7 +204,7 @@ module _ (by_delete : Bool) where
 
   ends_by : (t : Bool) (w : List ℕ) (r : Bool) (b : ℕ) (bs : List ℕ) → bytes_eq (w ++ b ∷ []) paste_end ≡ t → IsTail w → paste_fate (w ++ b ∷ []) ≡ Ends
       → HasNone (exact paste_end ∷ []) (w ++ b ∷ bs) → Goes bs
-      → IsPasted (with_front (ended_in_paste t).output (run (ended_in_paste t).state bs)) (pasted_after r (w ++ b ∷ bs))
+      → IsPasted (with_front (ended_in_paste t).parts (run (ended_in_paste t).state bs)) (pasted_after r (w ++ b ∷ bs))
   ends_by true w r b bs t is h none rest =
       absurd (both_ways (matches_any (exact paste_end ∷ []) (w ++ b ∷ [])) (none [] (w ++ b ∷ []) bs (sym (append_assoc w (b ∷ []) bs)))
       (is_end (w ++ b ∷ []) t))
@@ -216,7 +217,7 @@ module _ (by_delete : Bool) where
 
   way_by : (f : Fate) (w : List ℕ) (r : Bool) (b : ℕ) (bs : List ℕ) → paste_fate (w ++ b ∷ []) ≡ f → IsSound (Within w r)
       → HasNone (exact paste_end ∷ []) (w ++ b ∷ bs) → Goes bs
-      → IsPasted (with_front (paste_step_by f w r b).output (run (paste_step_by f w r b).state bs)) (pasted_after r (w ++ b ∷ bs))
+      → IsPasted (with_front (paste_step_by f w r b).parts (run (paste_step_by f w r b).state bs)) (pasted_after r (w ++ b ∷ bs))
   way_by Waits w r b bs h sound none rest =
       let joined : (w ++ b ∷ []) ++ bs ≡ w ++ b ∷ bs = append_assoc w (b ∷ []) bs in
       subst (IsPasted (with_front [] (run (Within (w ++ b ∷ []) false) bs))) (begun_text w b bs r sound.1 h)
@@ -230,14 +231,14 @@ module _ (by_delete : Bool) where
       let text : pasted_after r (w ++ b ∷ bs) ≡ pasted_part w ++ pasted_after r (b ∷ bs) =
       subst (λ x. pasted_after r (x ++ b ∷ bs) ≡ pasted_part x ++ pasted_after r (b ∷ bs)) is.1
       (broken_off is.0 r b bs (λ e. is.1 ∙ sound.1 e) (ap (λ x. paste_fate (x ++ b ∷ [])) is.1 ∙ h)) in
-      let back : IsPasted (with_front fresh.output (run fresh.state bs)) (pasted_after r (b ∷ bs)) =
+      let back : IsPasted (with_front fresh.parts (run fresh.state bs)) (pasted_after r (b ∷ bs)) =
       fresh_by (paste_fate (b ∷ [])) r b bs refl (none_behind (exact paste_end ∷ []) w (b ∷ bs) none) rest in
-      let all : IsPasted (with_front (pasted_part w) (with_front fresh.output (run fresh.state bs))) (pasted_part w ++ pasted_after r (b ∷ bs)) =
-      in_front (pasted_part w) (with_front fresh.output (run fresh.state bs)) (pasted_after r (b ∷ bs)) back in
-      let same : with_front (pasted_part w ++ fresh.output) (run fresh.state bs) ≡ with_front (pasted_part w) (with_front fresh.output (run fresh.state bs)) =
-      ap (step_to (run fresh.state bs).state) (append_assoc (pasted_part w) fresh.output (run fresh.state bs).output) in
+      let all : IsPasted (with_front (passed (pasted_part w)) (with_front fresh.parts (run fresh.state bs))) (pasted_part w ++ pasted_after r (b ∷ bs)) =
+      in_front (pasted_part w) (with_front fresh.parts (run fresh.state bs)) (pasted_after r (b ∷ bs)) back in
+      let same : with_front (passed (pasted_part w) ++ fresh.parts) (run fresh.state bs) ≡ with_front (passed (pasted_part w)) (with_front fresh.parts (run fresh.state bs)) =
+      ap (step_to (run fresh.state bs).state) (append_assoc (passed (pasted_part w)) fresh.parts (run fresh.state bs).parts) in
       subst (λ x. IsPasted x (pasted_after r (w ++ b ∷ bs))) (sym same)
-      (subst (IsPasted (with_front (pasted_part w) (with_front fresh.output (run fresh.state bs)))) (sym text) all)
+      (subst (IsPasted (with_front (passed (pasted_part w)) (with_front fresh.parts (run fresh.state bs)))) (sym text) all)
 
   text_goes : (bs w : List ℕ) (r : Bool) → IsSound (Within w r) → HasNone (exact paste_end ∷ []) (w ++ bs)
       → IsPasted (run (Within w r) bs) (pasted_after r (w ++ bs))
@@ -247,39 +248,43 @@ module _ (by_delete : Bool) where
         waiting = w;
         after_return = r;
         is_state = refl;
-        is_text = subst (λ x. pasted_part x ≡ pasted_after r x) is.1 (sym (alone is.0 r (λ e. is.1 ∙ sound.1 e))) ∙ ap (pasted_after r) (sym (append-nil w));
+        is_text = ap passed (subst (λ x. pasted_part x ≡ pasted_after r x) is.1 (sym (alone is.0 r (λ e. is.1 ∙ sound.1 e))) ∙ ap (pasted_after r) (sym (append-nil w)));
       }
   text_goes (b ∷ bs) w r sound none = way_by (paste_fate (w ++ b ∷ [])) w r b bs refl sound none (text_goes bs)
 
   -- ---- the end
 
-  at_escape : (w : List ℕ) (r : Bool) → paste_fate w ≡ Waits → step (Within w r) 0x1B ≡ step_to (Within (0x1B ∷ []) false) (pasted_part w)
+  abbrev ending : List Part
+  ending = Known (PasteEnd ∷ []) ∷ []
+
+  at_escape : (w : List ℕ) (r : Bool) → paste_fate w ≡ Waits → step (Within w r) 0x1B ≡ step_to (Within (0x1B ∷ []) false) (passed (pasted_part w))
   at_escape [] r h = refl
   at_escape (x ∷ xs) r h =
       let breaks : paste_fate (x ∷ (xs ++ 0x1B ∷ [])) ≡ Breaks = breaks_at paste_sequences x xs 0x1B refl in
       ap (λ f. paste_step_by f (x ∷ xs) r 0x1B) breaks
-      ∙ ap (step_to (Within (0x1B ∷ []) false)) (append-nil (pasted_part (x ∷ xs)))
+      ∙ ap (step_to (Within (0x1B ∷ []) false)) (append-nil (passed (pasted_part (x ∷ xs))))
 
-  end_goes : (w : List ℕ) (r : Bool) → paste_fate w ≡ Waits → run (Within w r) paste_end ≡ step_to start (pasted_part w ++ end_told)
+  end_goes : (w : List ℕ) (r : Bool) → paste_fate w ≡ Waits → run (Within w r) paste_end ≡ step_to start (passed (pasted_part w) ++ ending)
   end_goes w r h =
-      ap (λ (x : Step). with_front x.output (run x.state (drop 1 paste_end))) (at_escape w r h)
+      ap (λ (x : Step). with_front x.parts (run x.state (drop 1 paste_end))) (at_escape w r h)
 
-  pub text_and_end : (text : List ℕ) → HasNone (exact paste_end ∷ []) text → run (Within [] false) (text ++ paste_end) ≡ step_to start (pasted text ++ end_told)
+  pub text_and_end : (text : List ℕ) → HasNone (exact paste_end ∷ []) text → run (Within [] false) (text ++ paste_end) ≡ step_to start (passed (pasted text) ++ ending)
   text_and_end text none =
       let s : Step = run (Within [] false) text in
       let is : IsPasted s (pasted text) = text_goes text [] false (refl, λ e. refl) none in
       let sound : IsSound (Within is.waiting is.after_return) = subst IsSound is.is_state (run_sound by_delete (Within [] false) text (refl, λ e. refl)) in
       in_pieces by_delete (Within [] false) text paste_end
-      ∙ ap (λ x. with_front s.output (run x paste_end)) is.is_state
-      ∙ ap (with_front s.output) (end_goes is.waiting is.after_return sound.0)
-      ∙ ap (step_to start) (sym (append_assoc s.output (pasted_part is.waiting) end_told) ∙ ap (λ xs. xs ++ end_told) is.is_text)
+      ∙ ap (λ x. with_front s.parts (run x paste_end)) is.is_state
+      ∙ ap (with_front s.parts) (end_goes is.waiting is.after_return sound.0)
+      ∙ ap (step_to start) (sym (append_assoc s.parts (passed (pasted_part is.waiting)) ending) ∙ ap (λ xs. xs ++ ending) is.is_text)
 
   pub pastes_text : PastesText by_delete
-  pastes_text bs waiting is_open text at none =
-      let first : run start (bs ++ paste_start) ≡ step_to (Within [] false) (filtered bs ++ start_told) =
-      whole_sequence by_delete (λ o. step_to (Within [] false) start_told) (drop 1 paste_start) bs waiting is_open (refl, refl, refl, refl) at in
+  pastes_text bs waiting text at none =
+      let beginning : List Part = Known (PasteStart ∷ []) ∷ [] in
+      let first : run start (bs ++ paste_start) ≡ step_to (Within [] false) (scanned bs ++ beginning) =
+      whole_sequence by_delete (step_to (Within [] false) beginning) (drop 1 paste_start) bs waiting (refl, refl) at in
       ap (run start) (sym (append_assoc bs paste_start (text ++ paste_end)))
       ∙ in_pieces by_delete start (bs ++ paste_start) (text ++ paste_end)
-      ∙ ap (λ (x : Step). with_front x.output (run x.state (text ++ paste_end))) first
-      ∙ ap (with_front (filtered bs ++ start_told)) (text_and_end text none)
-      ∙ ap (step_to start) (append_assoc (filtered bs) start_told (pasted text ++ end_told))
+      ∙ ap (λ (x : Step). with_front x.parts (run x.state (text ++ paste_end))) first
+      ∙ ap (with_front (scanned bs ++ beginning)) (text_and_end text none)
+      ∙ ap (step_to start) (append_assoc (scanned bs) beginning (passed (pasted text) ++ ending))

@@ -1,22 +1,23 @@
--- Laws of the filter, for any input. `b` is a byte, `bs` are bytes, `s` is a state of the filter, `r` a row of its table.
-use Rattle.std.specs.Prelude.{◌≡◌, ◌≢◌, ◌≤◌, ℕ, ◌*◌, Bool, true, false, not, ◌&&◌, ◌||◌, ◌==◌, nat_le, List, [], ◌∷◌, ◌++◌, length, map, drop, codes, is_some, Option, Some, None, if◌then◌else◌}
-use Rattle.std.specs.List.{list_all, list_any}
-use Rattle.std.specs.Str.{bytes_eq, chars, IsUtf8}
+-- Laws of typed bytes, for any input. `b` is a byte, `bs` are bytes, `s` is a state, `r` a row of the table.
+use Rattle.std.specs.Prelude.{◌≡◌, ◌≢◌, ◌≤◌, ℕ, Bool, true, false, not, ◌&&◌, ◌||◌, ◌==◌, List, [], ◌∷◌, ◌++◌, length, map, drop, codes, is_some, Option, Some, None, if◌then◌else◌}
+use Rattle.std.specs.List.{list_all}
+use Rattle.std.specs.Str.{chars, IsUtf8}
 use Rattle.std.specs.Str.Parse.{digits_value}
 use Rattle.bx_bytes.specs.Pattern.{Piece, matches_any}
 use Rattle.bx_keys.specs.Keys.{decoding, is_side_in_digits}
 use Rattle.bx_keys.specs.declared.key.Key.{Key}
-use Rattle.bx_keys.specs.declared.key.Key.TheVariants.{Insert, PasteStart, PasteEnd, Point, Drag, Select, ScrollBack, ScrollOn, Size, Fill}
-use Rattle.bx_input.specs.Mouse.{Report, opens_report, report_of}
-use Rattle.bx_input.specs.Sizes.{opens_size, is_size}
-use Rattle.bx_input.specs.Table.{Row, csi, keys_of, byte_rows, row_of, sequences, exact, paste_start, paste_end, start_told, end_told}
+use Rattle.bx_keys.specs.declared.key.Key.TheVariants.{Insert, PasteStart, PasteEnd, Size, Fill}
+use Rattle.bx_input.specs.Machine.{read}
+use Rattle.bx_input.specs.Mouse.{Report, opens_report, report_of, reported}
+use Rattle.bx_input.specs.Sizes.{opens_size, size_of}
+use Rattle.bx_input.specs.Table.{Row, csi, keys_of, row_of, sequences, exact, paste_start, paste_end}
 use Rattle.bx_input.specs.Paste.{is_control_byte, kept_characters, pasted}
-use Rattle.bx_input.specs.Filter as filter
-use Rattle.bx_input.specs.Filter.{State, Outside, Within, Step, step_to, with_front, start, at_end, apart_from, is_empty}
+use Rattle.bx_input.specs.Scan as scan
+use Rattle.bx_input.specs.Scan.{State, Outside, Within, Part, Passed, Known, passed, Step, step_to, with_front, start, at_end, are_escapes}
 
 -- the bytes that wait in a state
 abbrev pub waiting_in : State → List ℕ
-waiting_in (Outside waiting is_open) = waiting
+waiting_in (Outside waiting) = waiting
 waiting_in (Within waiting after_return) = waiting
 
 -- the bytes are a mouse report
@@ -25,7 +26,7 @@ is_report bs = opens_report bs && is_some (report_of (drop 3 bs))
 
 -- the bytes are a size of the window
 abbrev pub is_size_sequence : List ℕ → Bool
-is_size_sequence bs = opens_size bs && is_size (drop 4 bs)
+is_size_sequence bs = opens_size bs && is_some (size_of (drop 4 bs))
 
 -- no part of these bytes is one
 abbrev pub HasNoSize : List ℕ → Type 0
@@ -35,27 +36,9 @@ HasNoSize bs = (front middle back : List ℕ) → bs ≡ front ++ (middle ++ bac
 abbrev pub HasNoReport : List ℕ → Type 0
 HasNoReport bs = (front middle back : List ℕ) → bs ≡ front ++ (middle ++ back) → is_report middle ≡ false
 
--- the editor's keys for a press of a button or a move in the cell of this row and column
-abbrev pub pressed_keys : ℕ → ℕ → ℕ → List Key
-pressed_keys button row column =
-    if button == 0 then Point row column ∷ []
-    else if button == 4 then Select ∷ Point row column ∷ []
-    else if button == 32 || button == 36 then Drag row column ∷ []
-    else if button == 64 then ScrollBack ∷ []
-    else if button == 65 then ScrollOn ∷ []
-    else []
-
--- the editor's keys for a mouse report
-abbrev pub keys_of_report : Report → List Key
-keys_of_report r = if r.is_release then [] else pressed_keys r.button (digits_value 10 r.row) (digits_value 10 r.column)
-
 -- no part of these bytes matches one of the patterns
 abbrev pub HasNone : List (List Piece) → List ℕ → Type 0
 HasNone patterns bs = (front middle back : List ℕ) → bs ≡ front ++ (middle ++ back) → matches_any patterns middle ≡ false
-
--- one ESC waits, or two do, and no more
-abbrev pub are_escapes : List ℕ → Bool
-are_escapes waiting = bytes_eq waiting (0x1B ∷ []) || bytes_eq waiting (0x1B ∷ 0x1B ∷ [])
 
 -- the row of ESC and a sequence, if only ESC waits
 abbrev pub longer_by : List ℕ → Option Row → Option Row
@@ -79,41 +62,41 @@ is_text_byte b = (b == 0x09 || b == 0x0A) || not (is_control_byte b)
 abbrev pub IsText : List ℕ → Type 0
 IsText bs = list_all is_text_byte bs ≡ true
 
--- a byte that is a row's whole sequence
-abbrev pub is_key_byte : ℕ → Bool
-is_key_byte b = list_any (λ (r : Row). bytes_eq r.sequence (b ∷ [])) (byte_rows false)
+-- a byte of text that passes on
+abbrev pub is_text_part : Part → Bool
+is_text_part (Passed b) = is_text_byte b
+is_text_part (Known keys) = false
 
--- the editor decodes the bytes of a row as the row's keys
-abbrev pub HasKeys : Row → Type 0
-HasKeys r = decoding r.becomes ≡ record { keys = keys_of r; rest = [] }
-
--- rows of one or two bytes, and rows with Select of three or four, whose output is more than 7/4 as long as their sequence
-abbrev pub is_short : Row → Bool
-is_short r = nat_le (length r.sequence) 2 || (r.selects && nat_le (length r.sequence) 4)
-
--- there is a row, and it is short
-abbrev pub has_short : Option Row → Bool
-has_short None = false
-has_short (Some r) = is_short r
+-- no known sequence, and no byte but those of text
+abbrev pub AreText : List Part → Type 0
+AreText parts = list_all is_text_part parts ≡ true
 
 -- the key inserts a character
 abbrev pub is_insert : Key → Bool
 is_insert (Insert c) = true
 is_insert _ = false
 
+-- bytes that pass on have the keys of the grammar of items
+abbrev pub PassedAreDecoded : Type 0
+PassedAreDecoded = (bs : List ℕ) → (read [] (passed bs)).keys ≡ (decoding bs).keys
+
 -- whether or not the terminal's own erase character is DELETE
 module _ (erases_by_delete : Bool) where
   abbrev run : State → List ℕ → Step
-  run = filter.run erases_by_delete
+  run = scan.run erases_by_delete
 
-  abbrev filtered : List ℕ → List ℕ
-  filtered = filter.filtered erases_by_delete
+  abbrev scanned : List ℕ → List Part
+  scanned = scan.scanned erases_by_delete
 
-  -- input cut in two has the output of its first part, and then of its second
+  -- the keys of a whole input
+  abbrev pub keys : List ℕ → List Key
+  keys bs = (read [] (scanned bs)).keys
+
+  -- input cut in two has the parts of its first piece, and then of its second
   abbrev pub ComesInPieces : Type 0
   ComesInPieces = (s : State) (bs more : List ℕ) →
       let first : Step = run s bs in
-      run s (bs ++ more) ≡ with_front first.output (run first.state more)
+      run s (bs ++ more) ≡ with_front first.parts (run first.state more)
 
   -- At most fifteen bytes wait: CSI 8 ; and as many bytes as the numbers of a mouse report have. Of what begins neither a report nor a
   -- size at most nine do (CSI 27;5;39, the longest beginning of a sequence of the table or of a paste's start).
@@ -126,80 +109,59 @@ module _ (erases_by_delete : Bool) where
   abbrev pub longer_row : List ℕ → Row → Option Row
   longer_row waiting r = longer_by waiting (row_of erases_by_delete (0x1B ∷ r.sequence))
 
-  -- the output for input and then the sequence of `r`: if there is a longer row, its output takes the place of the ESC that
-  -- waits, or of the second one
-  abbrev pub became : List ℕ → List ℕ → Bool → Row → Option Row → List ℕ
-  became bs waiting is_open r None = filtered bs ++ apart_from (is_open || not (is_empty waiting)) r.becomes
-  became bs waiting is_open r (Some longer) =
-      ((run start bs).output ++ drop 1 waiting) ++ apart_from (is_open || not (is_empty (drop 1 waiting))) longer.becomes
+  -- the parts of input and then the sequence of `r`: if there is a longer row, it takes the place of the ESC that waits, or of the
+  -- second one
+  abbrev pub given : List ℕ → List ℕ → Row → Option Row → List Part
+  given bs waiting r None = scanned bs ++ Known (keys_of r) ∷ []
+  given bs waiting r (Some longer) = ((run start bs).parts ++ passed (drop 1 waiting)) ++ Known (keys_of longer) ∷ []
 
-  -- A sequence of the table after input that ends outside a paste: the waiting bytes go out unchanged, and then the row's bytes.
-  -- With an ESC that belongs to a longer row, the bytes of that row go out.
-  abbrev pub BecomesRow : Row → Type 0
-  BecomesRow r = (bs waiting : List ℕ) (is_open : Bool) → (run start bs).state ≡ Outside waiting is_open
-      → run start (bs ++ r.sequence) ≡ step_to start (became bs waiting is_open r (longer_row waiting r))
+  -- A sequence of the table after input that ends outside a paste: the waiting bytes pass on, and then the row is known. An ESC that
+  -- belongs to a longer row does not pass on.
+  abbrev pub GivesRow : Row → Type 0
+  GivesRow r = (bs waiting : List ℕ) → (run start bs).state ≡ Outside waiting
+      → run start (bs ++ r.sequence) ≡ step_to start (given bs waiting r (longer_row waiting r))
 
-  -- input with no sequence of the table, no start of a paste, no mouse report and no size goes out unchanged
+  -- After any input that ends outside a paste, the row's sequence gives the row's keys and no other: one, or Select and one. With an
+  -- ESC that belongs to a longer row, they are that row's.
+  abbrev pub AddsKeys : Row → Type 0
+  AddsKeys r = (bs waiting : List ℕ) → (run start bs).state ≡ Outside waiting
+      → keys (bs ++ r.sequence) ≡ keys bs ++ keys_of (row_behind r (longer_row waiting r))
+
+  -- input with no sequence of the table, no start of a paste, no mouse report and no size passes on
   abbrev pub OthersPass : Type 0
-  OthersPass = (bs : List ℕ) → HasNone sequences bs → HasNoReport bs → HasNoSize bs → filtered bs ≡ bs
+  OthersPass = (bs : List ℕ) → HasNone sequences bs → HasNoReport bs → HasNoSize bs → scanned bs ≡ passed bs
 
   -- a paste after input that ends outside one, up to the first end of a paste: PasteStart, the text and PasteEnd
   abbrev pub PastesText : Type 0
-  PastesText = (bs waiting : List ℕ) (is_open : Bool) (text : List ℕ) → (run start bs).state ≡ Outside waiting is_open
-      → HasNone (exact paste_end ∷ []) text
+  PastesText = (bs waiting text : List ℕ) → (run start bs).state ≡ Outside waiting → HasNone (exact paste_end ∷ []) text
       → run start (bs ++ (paste_start ++ (text ++ paste_end)))
-      ≡ step_to start (filtered bs ++ (start_told ++ (pasted text ++ end_told)))
+      ≡ step_to start (scanned bs ++ Known (PasteStart ∷ []) ∷ (passed (pasted text) ++ Known (PasteEnd ∷ []) ∷ []))
 
-  -- The output within a paste is text, however the paste is cut. The byte that ends the paste gives PasteEnd alone.
+  -- Within a paste only text passes on, however the paste is cut. The byte that ends the paste gives PasteEnd alone.
   pub record PastesAreClean : Type 0 where
     pub each_byte : (waiting : List ℕ) (after_return : Bool) (b : ℕ) → waiting ++ b ∷ [] ≢ paste_end
-        → IsText (filter.step erases_by_delete (Within waiting after_return) b).output
+        → AreText (scan.step erases_by_delete (Within waiting after_return) b).parts
     pub last_byte : (waiting : List ℕ) (after_return : Bool) (b : ℕ) → waiting ++ b ∷ [] ≡ paste_end
-        → filter.step erases_by_delete (Within waiting after_return) b ≡ step_to start end_told
-    pub input_ends : (waiting : List ℕ) (after_return : Bool) → IsText (at_end (Within waiting after_return))
+        → scan.step erases_by_delete (Within waiting after_return) b ≡ step_to start (Known (PasteEnd ∷ []) ∷ [])
+    pub input_ends : (waiting : List ℕ) (after_return : Bool) → AreText (at_end (Within waiting after_return))
     pub whole : (text : List ℕ) → IsText (pasted text)
 
-  -- output is at most six times as long as the input: a key of one byte becomes at most six bytes
-  abbrev pub GrowsSixTimes : Type 0
-  GrowsSixTimes = (bs : List ℕ) → length (filtered bs) ≤ 6 * length bs
-
-  -- without key bytes, output is at most 10/3 as long as the input: three bytes become at most ten
-  abbrev pub GrowsByTenThirds : Type 0
-  GrowsByTenThirds = (bs : List ℕ) → list_all (λ b. not (is_key_byte b)) bs ≡ true → 3 * length (filtered bs) ≤ 10 * length bs
-
-  -- no part of these bytes is the sequence of a short row
-  abbrev pub HasNoShort : List ℕ → Type 0
-  HasNoShort bs = (front middle back : List ℕ) → bs ≡ front ++ (middle ++ back) → has_short (row_of erases_by_delete middle) ≡ false
-
-  -- without short rows, output is at most 7/4 as long as the input: a size of eight bytes becomes fourteen
-  abbrev pub GrowsByThreeFourths : Type 0
-  GrowsByThreeFourths = (bs : List ℕ) → HasNoShort bs → 4 * length (filtered bs) ≤ 7 * length bs
-
-  -- After any input that ends outside a paste, the row's sequence gives the editor the row's keys and no other: one, or Select
-  -- and one. With an ESC that belongs to a longer row, they are that row's.
-  abbrev pub AddsKeys : Row → Type 0
-  AddsKeys r = (bs waiting : List ℕ) (is_open : Bool) → (run start bs).state ≡ Outside waiting is_open
-      → (decoding (filtered (bs ++ r.sequence))).keys ≡ (decoding (filtered bs)).keys ++ keys_of (row_behind r (longer_row waiting r))
-
-  -- After any input that ends outside a paste, a mouse report gives the editor the keys that it means and no other.
+  -- After any input that ends outside a paste, a mouse report gives the keys that it means and no other.
   abbrev pub AddsReportKeys : Type 0
-  AddsReportKeys = (bs waiting ps : List ℕ) (is_open : Bool) (r : Report) → (run start bs).state ≡ Outside waiting is_open
-      → report_of ps ≡ Some r
-      → (decoding (filtered (bs ++ csi (0x3C ∷ ps)))).keys ≡ (decoding (filtered bs)).keys ++ keys_of_report r
+  AddsReportKeys = (bs waiting ps : List ℕ) (r : Report) → (run start bs).state ≡ Outside waiting → report_of ps ≡ Some r
+      → keys (bs ++ csi (0x3C ∷ ps)) ≡ keys bs ++ reported r
 
-  -- After any input that ends outside a paste, a size gives the editor the keys Size and Fill and no other.
+  -- After any input that ends outside a paste, a size gives the keys Size and Fill and no other.
   abbrev pub AddsSizeKeys : Type 0
-  AddsSizeKeys = (bs waiting h w : List ℕ) (is_open : Bool) → (run start bs).state ≡ Outside waiting is_open
+  AddsSizeKeys = (bs waiting h w : List ℕ) → (run start bs).state ≡ Outside waiting
       → is_side_in_digits h ≡ true → is_side_in_digits w ≡ true
-      → (decoding (filtered (bs ++ csi (codes "8;" ++ ((h ++ 0x3B ∷ w) ++ codes "t"))))).keys
-      ≡ (decoding (filtered bs)).keys ++ Size (digits_value 10 h) (digits_value 10 w) ∷ Fill ∷ []
+      → keys (bs ++ csi (codes "8;" ++ ((h ++ 0x3B ∷ w) ++ codes "t"))) ≡ keys bs ++ Size (digits_value 10 h) (digits_value 10 w) ∷ Fill ∷ []
 
-  -- The editor's keys for a paste are PasteStart, those of its text, and PasteEnd, whatever bytes wait. Each of the text inserts
-  -- a character, and does nothing else. If the text is UTF-8, these are its characters in order.
+  -- The keys of a paste are PasteStart, those of its text, and PasteEnd, whatever bytes wait. Each of the text inserts a character, and
+  -- does nothing else. If the text is UTF-8, these are its characters in order.
   abbrev pub PastesInsert : Type 0
-  PastesInsert = (bs waiting : List ℕ) (is_open : Bool) (text : List ℕ) → (run start bs).state ≡ Outside waiting is_open
-      → HasNone (exact paste_end ∷ []) text
-      → let keys : List Key = (decoding (pasted text)).keys in
-      ((decoding (filtered (bs ++ (paste_start ++ (text ++ paste_end))))).keys ≡ (decoding (filtered bs)).keys ++ PasteStart ∷ (keys ++ PasteEnd ∷ []))
-      × (list_all is_insert keys ≡ true)
-      × (IsUtf8 (pasted text) → keys ≡ map Insert (chars (pasted text)))
+  PastesInsert = (bs waiting text : List ℕ) → (run start bs).state ≡ Outside waiting → HasNone (exact paste_end ∷ []) text
+      → let inside : List Key = (decoding (pasted text)).keys in
+      (keys (bs ++ (paste_start ++ (text ++ paste_end))) ≡ keys bs ++ PasteStart ∷ (inside ++ PasteEnd ∷ []))
+      × (list_all is_insert inside ≡ true)
+      × (IsUtf8 (pasted text) → inside ≡ map Insert (chars (pasted text)))

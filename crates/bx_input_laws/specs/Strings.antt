@@ -1,8 +1,8 @@
 -- The law of control strings.
-use Rattle.std.specs.Prelude.{◌≡◌, ◌≤◌, ◌⊎◌, ℕ, Bool, true, false, ◌&&◌, ◌||◌, ◌==◌, List, [], ◌∷◌, ◌++◌, length, None}
-use Rattle.bx_input.specs.Filter.{Outside, filtering, apart_from}
+use Rattle.std.specs.Prelude.{◌≡◌, ◌≤◌, ◌⊎◌, ℕ, Bool, true, false, ◌&&◌, ◌||◌, ◌==◌, List, [], ◌∷◌, ◌++◌, length, map, None}
+use Rattle.bx_input.specs.Machine.{Machine, Typed, after_all}
+use Rattle.bx_input.specs.Scan.{start}
 use Rattle.bx_input.specs.Strings.{is_introducer}
-use Rattle.bx_input.specs.Translating.{Translating, after_all_typed}
 use Rattle.bx_input.specs.declared.pause.Pause.{Pause}
 
 -- the bytes have BEL, or ESC and a backslash
@@ -20,13 +20,14 @@ pub record IsContent (bs : List ℕ) : Type 0 where
 abbrev pub IsEnd : List ℕ → Type 0
 IsEnd bs = (bs ≡ 0x07 ∷ []) ⊎ (bs ≡ 0x1B ∷ 0x5C ∷ [])
 
--- outside a paste, with no byte, no size and no notice waiting; the session may be within a key
-abbrev pub idle_translating : Bool → Bool → Pause → List ℕ → Translating
-idle_translating erases_by_delete is_open pause rest =
-    record { filter = filtering erases_by_delete (Outside [] is_open) pause; string = []; rest = rest; size = None; notice = None }
+-- outside a paste, with no byte and no notice waiting; an item may be half read
+abbrev pub idle_machine : Bool → Pause → List ℕ → Machine
+idle_machine erases_by_delete pause rest =
+    record { erases_by_delete = erases_by_delete; state = start; pause = pause; string = []; rest = rest; notice = None }
 
--- A control string gives the session nothing, but a CAN where a sequence is open.
+-- A control string outside a paste, where no byte waits, gives no key. It drops an item that is not read to its end, as each known
+-- sequence does.
 abbrev pub StringsGiveNothing : Type 0
-StringsGiveNothing = (erases_by_delete is_open : Bool) (pause : Pause) (rest content end : List ℕ) (introducer : ℕ)
+StringsGiveNothing = (erases_by_delete : Bool) (pause : Pause) (rest content end : List ℕ) (introducer : ℕ)
     → is_introducer introducer ≡ true → IsContent content → IsEnd end
-    → (after_all_typed (0x1B ∷ introducer ∷ (content ++ end)) (idle_translating erases_by_delete is_open pause rest)).output ≡ apart_from is_open []
+    → (after_all (map Typed (0x1B ∷ introducer ∷ (content ++ end))) (idle_machine erases_by_delete pause rest)).keys ≡ []

@@ -1,16 +1,17 @@
-//! Laws of the filter, for any input and either erase character of the terminal. Each function's contract is a law; its body
+//! Laws of typed bytes, for any input and either erase character of the terminal. Each function's contract is a law; its body
 //! is empty.
 
 ghost use Rattle.std.specs.Prelude.{Bool};
 ghost use Rattle.std.specs.List.{AllByRecursion};
+ghost use Rattle.bx_input_laws.specs.Events.{EventsComeInPieces};
 ghost use Rattle.bx_input_laws.specs.Hearing.{AreHeardInOrder};
-ghost use Rattle.bx_input_laws.specs.Laws.{AddsKeys, AddsReportKeys, AddsSizeKeys, BecomesRow, ComesInPieces, GrowsByTenThirds, GrowsByThreeFourths, GrowsSixTimes, HasKeys, OthersPass};
-ghost use Rattle.bx_input_laws.specs.Laws.{PastesAreClean, WaitsForFifteen};
-ghost use Rattle.bx_input_laws.specs.Laws.{PastesInsert, PastesKeepCharacters, PastesText};
+ghost use Rattle.bx_input_laws.specs.Laws.{AddsKeys, AddsReportKeys, AddsSizeKeys, ComesInPieces, GivesRow, OthersPass, PassedAreDecoded, PastesAreClean};
+ghost use Rattle.bx_input_laws.specs.Laws.{PastesInsert, PastesKeepCharacters, PastesText, WaitsForFifteen};
+ghost use Rattle.bx_input_laws.specs.Reading.{FramesAreRead, KeysAreRead};
 ghost use Rattle.bx_input_laws.specs.Strings.{StringsGiveNothing};
 ghost use Rattle.bx_input.specs.Table.{rows};
 
-/// However input is cut, its output is the same.
+/// However input is cut, its parts are the same.
 pub fn in_any_pieces()
     ensures { (erases_by_delete : Bool) → ComesInPieces erases_by_delete }
 {}
@@ -20,33 +21,19 @@ pub fn waits_for_fifteen()
     ensures { (erases_by_delete : Bool) → WaitsForFifteen erases_by_delete }
 {}
 
-/// The output of a paste has no control byte except TAB and LF, up to the PasteEnd that its end gives.
+/// Within a paste only text passes on: no control byte except TAB and LF, up to the PasteEnd that its end gives.
 pub fn pastes_are_clean()
     ensures { (erases_by_delete : Bool) → PastesAreClean erases_by_delete }
 {}
 
-/// A sequence of the table becomes the bytes of its row, except within a paste and after an ESC with which it is a longer
-/// row.
-pub fn rows_become()
-    ensures { (erases_by_delete : Bool) → AllByRecursion (BecomesRow erases_by_delete) (rows erases_by_delete) }
+/// A sequence of the table is known as its row, except within a paste and after an ESC with which it is a longer row.
+pub fn rows_are_known()
+    ensures { (erases_by_delete : Bool) → AllByRecursion (GivesRow erases_by_delete) (rows erases_by_delete) }
 {}
 
-/// Input with no sequence of the table, no paste, no mouse report and no size goes out unchanged.
+/// Input with no sequence of the table, no paste, no mouse report and no size passes on to the grammar of items.
 pub fn others_pass()
     ensures { (erases_by_delete : Bool) → OthersPass erases_by_delete }
-{}
-
-/// Output is at most six times as long as the input, at most ten thirds as long if no key comes as a single byte, and at most
-/// three fourths longer if no key comes as one or two bytes, or selects by three or four.
-pub fn grows_six_times()
-    ensures six_times { (erases_by_delete : Bool) → GrowsSixTimes erases_by_delete }
-    ensures ten_thirds { (erases_by_delete : Bool) → GrowsByTenThirds erases_by_delete }
-    ensures three_fourths { (erases_by_delete : Bool) → GrowsByThreeFourths erases_by_delete }
-{}
-
-/// The editor decodes the bytes of each row as the keys of the row: one, or Select and one.
-pub fn rows_have_keys()
-    ensures { (erases_by_delete : Bool) → AllByRecursion HasKeys (rows erases_by_delete) }
 {}
 
 /// A paste becomes PasteStart, its text and PasteEnd, up to the first end of a paste.
@@ -59,35 +46,55 @@ pub fn pastes_keep_characters()
     ensures { PastesKeepCharacters }
 {}
 
-/// After any input that ends outside a paste, a sequence of the table gives the editor one key, or Select and one key, and no
-/// other: those of its row, or of the longer row that an ESC before it makes.
+/// Bytes that pass on have the keys of the grammar of items.
+pub fn passed_are_decoded()
+    ensures { PassedAreDecoded }
+{}
+
+/// After any input that ends outside a paste, a sequence of the table gives one key, or Select and one key, and no other: those of
+/// its row, or of the longer row that an ESC before it makes.
 pub fn rows_add_keys()
     ensures { (erases_by_delete : Bool) → AllByRecursion (AddsKeys erases_by_delete) (rows erases_by_delete) }
 {}
 
-/// After any input that ends outside a paste, a mouse report gives the editor the keys that it means, and no other: none, the
-/// cell that is pointed at, Select and that cell, the cell to which the pointer is dragged, or a key of the wheel.
+/// After any input that ends outside a paste, a mouse report gives the keys that it means, and no other: none, the cell that is
+/// pointed at, Select and that cell, the cell to which the pointer is dragged, or a key of the wheel.
 pub fn reports_add_keys()
     ensures { (erases_by_delete : Bool) → AddsReportKeys erases_by_delete }
 {}
 
-/// After any input that ends outside a paste, a size of the window gives the editor the keys Size and Fill, and no other.
+/// After any input that ends outside a paste, a size of the window gives the keys Size and Fill, and no other.
 pub fn sizes_add_keys()
     ensures { (erases_by_delete : Bool) → AddsSizeKeys erases_by_delete }
 {}
 
-/// After any input that ends outside a paste, a paste only inserts, between PasteStart and PasteEnd: the characters of its text
-/// in order, if that is UTF-8.
+/// After any input that ends outside a paste, a paste only inserts, between PasteStart and PasteEnd: the characters of its text in
+/// order, if that is UTF-8.
 pub fn pastes_insert()
     ensures { (erases_by_delete : Bool) → PastesInsert erases_by_delete }
 {}
 
-/// A control string outside a paste, such as a terminal's answer, gives the session nothing.
+/// A control string outside a paste, such as a terminal's answer, gives no key.
 pub fn strings_give_nothing()
     ensures { StringsGiveNothing }
+{}
+
+/// However events are cut, their keys are the same.
+pub fn events_in_any_pieces()
+    ensures { EventsComeInPieces }
 {}
 
 /// The session reads the frames of the host in their order, however the pipe cuts them.
 pub fn frames_are_heard_in_order()
     ensures { AreHeardInOrder }
+{}
+
+/// Each key that the machine gives is decoded from its bytes, and nothing waits behind them.
+pub fn keys_are_read()
+    ensures { KeysAreRead }
+{}
+
+/// What the session decodes of the frames of the host are exactly the machine's keys of their events.
+pub fn frames_are_read()
+    ensures { FramesAreRead }
 {}

@@ -9,7 +9,7 @@ pub returns-clause-left : goal.returns-clause-left
 returns-clause-left g c =
     let s : Reading = c.args.inbox.now in
     let new : Reading = record {
-      translating = c.inbox.inside.translator;
+      machine = c.inbox.inside.machine;
       held = c.truncate.new.self.items;
       ready = c.inbox.inside.ready.items;
       is_over = c.inbox.inside.is_over;

@@ -1,4 +1,4 @@
-use Rattle.bx_input.proofs.Runs.{in_pieces}
+use Rattle.bx_input_laws.proofs.Runs.{in_pieces}
 use Rattle.bx_input_laws.proofs.laws.in_any_pieces.Goals as goal
 
 pub returns : goal.returns

@@ -6,7 +6,7 @@ use Rattle.bx_input.proofs.inbox.Inbox.give.Goals as goal
 pub returns-clause-left : goal.returns-clause-left
 returns-clause-left c =
     let new : Reading = record {
-      translating = c.self.inside.translator;
+      machine = c.self.inside.machine;
       held = c.self.inside.held.items;
       ready = c.drop-drain.new.self.0.items;
       is_over = c.self.inside.is_over;

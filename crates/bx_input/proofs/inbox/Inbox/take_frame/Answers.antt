@@ -8,7 +8,7 @@ pub returns-clause-left : goal.returns-clause-left
 returns-clause-left c =
     let f : Frame = record { letter = c.in-Some.frame.letter; bytes = c.in-Some.frame.bytes.now } in
     let new : Reading = record {
-      translating = c.translate.new.self;
+      machine = c.translate.new.machine;
       held = c.drop-drain.new.self.0.items;
       ready = c.translate.new.out.items;
       is_over = c.self.inside.is_over;
