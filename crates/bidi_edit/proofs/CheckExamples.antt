@@ -1,11 +1,14 @@
 -- Worked examples: what `--check` answers, each from the law of its answers alone.
 use Rattle.std.specs.Global.{Vec}
-use Rattle.std.proofs.Common.{◌≡◌, ℕ, zero, suc, ◌<◌, List, [], ◌∷◌, Option, None, Result, Ok, Err, length, IsUtf8}
+use Rattle.std.proofs.Common.{◌≡◌, ℕ, zero, suc, ◌<◌, List, [], ◌∷◌, Option, None, Some, Result, Ok, Err, length, IsUtf8}
 use Rattle.std.proofs.Common.{refl, ap, subst, ◌∙◌, arith}
 use Rattle.std.specs.Char.{encode_utf8}
 use Rattle.std.specs.Str.{IsValidUpTo}
+use Rattle.std.specs.declared.io.ErrorKind.{ErrorKind}
+use Rattle.std.specs.declared.io.ErrorKind.TheVariants as kinds
 use Rattle.bx_common.specs.Characters.{largest_text}
 use Rattle.bx_command.specs.declared.shared.files.FileFault.{FileFault}
+use Rattle.bx_command.specs.shared.Files.{ReadsText, for_text}
 use Rattle.bx_command.specs.Check.{Refuses, line_of}
 use Rattle.bx_command.specs.declared.check.TextFault.{TextFault}
 use Rattle.bx_command.specs.declared.check.TextFault.TheVariants.{NotUtf8, TooLong}
@@ -15,13 +18,22 @@ use Rattle.bidi_edit.specs.declared.fault.ProgramFault.TheVariants as fault
 use Rattle.bidi_edit.specs.Check.{Checks, IsChecked}
 
 -- a FILE that is told as too long was read, and is
-pub what_is_too_long_was_read : (path : List ℕ) (checked : IsChecked path (Err (fault.Text TooLong)))
+pub what_is_too_long_was_read : (answers : List ℕ → Option ℕ → Result (List ℕ) ErrorKind → Type 0) (path : List ℕ) (checked : IsChecked answers path (Err (fault.Text TooLong)))
     → (text : Option (Vec ℕ)) × (checked.read ≡ Ok text) × (largest_text < length (bytes_of text))
-what_is_too_long_was_read path checked = of_read checked.read checked.answers where
+what_is_too_long_was_read answers path checked = of_read checked.read checked.checks where
   of_read : (read : Result (Option (Vec ℕ)) FileFault) → Checks read (Err (fault.Text TooLong))
       → (text : Option (Vec ℕ)) × (read ≡ Ok text) × (largest_text < length (bytes_of text))
   of_read (Err unread) answers = absurd (cc answers)
   of_read (Ok text) answers = (text, refl, answers)
+
+-- a FILE that cannot be read for another cause than that nothing has its path is not accepted
+pub an_unreadable_file_is_refused : (answers : List ℕ → Option ℕ → Result (List ℕ) ErrorKind → Type 0) (path : List ℕ)
+    → ((outcome : Result (List ℕ) ErrorKind) → answers path (for_text answers) outcome → outcome ≡ Err kinds.PermissionDenied) → IsChecked answers path (Ok tt) → ⊥
+an_unreadable_file_is_refused answers path denied checked = of_read checked.read checked.reads checked.checks where
+  of_read : (read : Result (Option (Vec ℕ)) FileFault) → ReadsText answers path read → Checks read (Ok tt) → ⊥
+  of_read (Ok None) reads checks = cc (denied (Err kinds.NotFound) reads)
+  of_read (Ok (Some bytes)) reads checks = cc (denied (Ok bytes.items) reads)
+  of_read (Err fault) reads checks = cc checks
 
 -- a text that is too long is told as that, whether or not it is UTF-8
 pub too_long_comes_before_not_utf8 : (text : Option (Vec ℕ)) (cause : TextFault) → largest_text < length (bytes_of text)

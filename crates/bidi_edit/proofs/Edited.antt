@@ -1,5 +1,5 @@
 -- The start and the end of a run, from the contracts of the calls within.
-use Rattle.std.proofs.Common.{◌≡◌, ℕ, Bool, true, false, List, None, Result, Ok, Err, IfErr, IsErrAnd, sym, ap, subst, ◌∙◌}
+use Rattle.std.proofs.Common.{◌≡◌, ℕ, Bool, true, false, List, [], None, Result, Ok, Err, IfErr, IsErrAnd, sym, ap, subst, ◌∙◌}
 use Rattle.std.specs.Global.{Vec}
 use Rattle.bx_editor.specs.Functions.{has_changes}
 use Rattle.bx_ucd.specs.Data.{Data}
@@ -11,9 +11,9 @@ use Rattle.bx_session.specs.declared.end.End.TheVariants.{Quit, InputEnded}
 use Rattle.bx_session.specs.declared.end.RunFault.{RunFault}
 use Rattle.bx_session.specs.Session.{Session, with_painting, StoreState}
 use Rattle.bx_session.specs.Feeding.{SessionState}
-use Rattle.bx_session.specs.Replaying.{after_journal}
+use Rattle.bx_session.specs.Inputs.{rest_from}
 use Rattle.bx_session.specs.Painting.{QueuesPicture}
-use Rattle.bx_session.specs.Running.{ByteAnswer, EndsWith}
+use Rattle.bx_session.specs.Running.{PressAnswer, EndsWith}
 use Rattle.bx_session.specs.Log.{HasLogged}
 use Rattle.bx_session.specs.Beginning.{Beginning, at_offset}
 use Rattle.bx_recovery.specs.declared.beginning.Beginning as given
@@ -25,7 +25,7 @@ use Rattle.bidi_edit.specs.declared.edit.Changes.{Changes}
 use Rattle.bidi_edit.specs.declared.fault.ProgramFault.{ProgramFault}
 use Rattle.bidi_edit.specs.declared.fault.ProgramFault.TheVariants as fault
 use Rattle.bidi_edit.specs.Faults.{IsFirstFault, IsLaterFault, fault_of_recovery}
-use Rattle.bidi_edit.specs.Run.{Edits, Resumes, RunsTo, RunsUnless, most_reads, outcome_of}
+use Rattle.bidi_edit.specs.Run.{Edits, EditsAny, Resumes, RunsTo, RunsUnless, most_reads, outcome_of, replayed}
 
 -- ---- which results come of a run
 
@@ -69,10 +69,10 @@ first_of b recovery.Unwritten first = absurd first
 first_of b recovery.OutOfMemory can = (can, tt)
 
 -- the session was not opened
-pub first_on : (b : given.Beginning) (r : Result Changes ProgramFault) (cause : RecoveryFault) → IsErrAnd r (λ e. e ≡ fault_of_recovery cause)
+pub opened_first : {T : Type 0} (b : given.Beginning) (r : Result T ProgramFault) (cause : RecoveryFault) → IsErrAnd r (λ e. e ≡ fault_of_recovery cause)
     → IsFirstCause b cause → IfErr r (IsFirstFault b)
-first_on b (Ok changes) cause is first = absurd is
-first_on b (Err e) cause is first = subst (IsFirstFault b) (sym is) (first_of b cause first)
+opened_first b (Ok session) cause is first = absurd is
+opened_first b (Err e) cause is first = subst (IsFirstFault b) (sym is) (first_of b cause first)
 
 first_if_later : (b : given.Beginning) (e : ProgramFault) → CanOpen b → IsLaterFault e → IsFirstFault b e
 first_if_later b (fault.Tables error) can later = absurd later
@@ -104,26 +104,28 @@ run_is_later r end changed is = subst (λ (x : Result Changes ProgramFault). IfE
 
 -- ---- after the opening
 
-module _ {V : Type 0} (did : V → Action → V → Type 0) (obeyed : V → Session → ByteAnswer → V → Session → Type 0) (stored : V → StoreState) where
-  pub resumes_of : {D : Type 0} (Q : Type 0) (ucd : D → Data) (old begun : SessionState D) (new : Session) (journal : List ℕ) (device device' : V)
-      (end : Result End RunFault) (changed : Bool) (result : Result Changes ProgramFault) → begun.tables ≡ old.tables
-      → begun.session ≡ with_painting (ucd old.tables) (after_journal (ucd old.tables) old.session journal)
-      → QueuesPicture (ucd old.tables) (after_journal (ucd old.tables) old.session journal).pending
-      (after_journal (ucd old.tables) old.session journal).known begun.session
-      → HasLogged did obeyed stored (ucd begun.tables) most_reads end begun.session new device device'
+module _ {V : Type 0} (did : V → Action → V → Type 0) (obeyed : V → Session → PressAnswer → V → Session → Type 0) (stored : V → StoreState) where
+  pub resumes_of : {D : Type 0} (Q : Type 0) (ucd : D → Data) (old begun : SessionState D) (new : Session) (journal rest rest' : List ℕ)
+      (device device' : V) (end : Result End RunFault) (changed : Bool) (result : Result Changes ProgramFault) → begun.tables ≡ old.tables
+      → begun.session ≡ with_painting (ucd old.tables) (replayed (ucd old.tables) old.session journal)
+      → QueuesPicture (ucd old.tables) (replayed (ucd old.tables) old.session journal).pending
+      (replayed (ucd old.tables) old.session journal).known begun.session → rest ≡ rest_from [] journal
+      → HasLogged did obeyed stored (ucd begun.tables) most_reads end rest rest' begun.session new device device'
       → EndsWith end new None → result ≡ outcome_of end changed → changed ≡ has_changes new.editor
       → RunsUnless result (Resumes did obeyed stored (ucd old.tables) old.session journal device device' result) Q
-  resumes_of {D} Q ucd old begun new journal device device' end changed result same is paints logged ends tells changes =
+  resumes_of {D} Q ucd old begun new journal rest rest' device device' end changed result same is paints waits logged ends tells changes =
       let d = ucd old.tables in
-      let from = after_journal d old.session journal in
-      let from_tables : HasLogged did obeyed stored d most_reads end begun.session new device device' =
-      subst (λ (t : D). HasLogged did obeyed stored (ucd t) most_reads end begun.session new device device') same logged in
+      let from = replayed d old.session journal in
+      let from_tables : HasLogged did obeyed stored d most_reads end rest rest' begun.session new device device' =
+      subst (λ (t : D). HasLogged did obeyed stored (ucd t) most_reads end rest rest' begun.session new device device') same logged in
       let all : Resumes did obeyed stored d old.session journal device device' result = record {
         session = new;
         end = end;
         painted = subst (QueuesPicture d from.pending from.known) is paints;
         runs = record {
-          logged = subst (λ (s : Session). HasLogged did obeyed stored d most_reads end s new device device') is from_tables;
+          waits = rest';
+          logged = subst (λ (xs : List ℕ). HasLogged did obeyed stored d most_reads end xs rest' (with_painting d from) new device device') waits
+              (subst (λ (s : Session). HasLogged did obeyed stored d most_reads end rest rest' s new device device') is from_tables);
           ends = ends;
         };
         tells = tells ∙ ap (outcome_of end) changes;
@@ -148,3 +150,11 @@ module _ {V : Type 0} (did : V → Action → V → Type 0) (obeyed : V → Sess
         runs = here.runs;
         tells = here.tells;
       })
+
+  -- from whatever start the session was opened
+  pub edits_any : (d : Data) (s : Session) (journal : List ℕ) (device device' : V) (result : Result Changes ProgramFault)
+      → RunsUnless result (Resumes did obeyed stored d s journal device device' result) (device' ≡ device)
+      → EditsAny did obeyed stored d s journal device device' result
+  edits_any d s journal device device' result resumes b files are opened same =
+      edits_of (device' ≡ device) b files d s device device' result are opened
+      (subst (λ keys. RunsUnless result (Resumes did obeyed stored d s keys device device' result) (device' ≡ device)) (sym same) resumes)

@@ -27,20 +27,18 @@ use Rattle.bx_session.specs.declared.end.RunFault.TheVariants.{ReadFault, ReadLi
 use Rattle.bx_session.specs.declared.status.Refused.{Refused}
 use Rattle.bx_session.specs.declared.status.Status.{Status}
 use Rattle.bx_session.specs.declared.wired.Wired.{Wired}
-use Rattle.bx_session.specs.Session.{Session, with_painting, StoreAfter, StoreState, is_save_byte, store_state, stores_by, text_to_save}
-use Rattle.bx_session.specs.Replaying.{after_journal}
+use Rattle.bx_session.specs.Inputs.{rest_from}
+use Rattle.bx_session.specs.Session.{Session, StoreAfter, StoreState, is_save_press, store_state, stores_by, text_to_save}
 use Rattle.bx_session.specs.Feeding.{is_applied}
-use Rattle.bx_session.specs.Running.{ByteAnswer, EndsWith, FeedsAll}
+use Rattle.bx_session.specs.Running.{PressAnswer, EndsWith, PressesAll}
 use Rattle.bx_session.specs.Journal.{RunsRecorded}
 use Rattle.bx_session.specs.Wire.{DidWired, ObeyedWired}
-use Rattle.bx_session.specs.Beginning.{Beginning, at_offset, begun}
-use Rattle.bx_session.proofs.KeySizes.{ended_goes_on}
+use Rattle.bx_session.specs.Beginning.{Beginning, begun}
 use Rattle.bx_session.proofs.Moved.{ended_with, recorded}
 use Rattle.bx_recovery.specs.declared.beginning.Beginning as given
 use Rattle.bx_recovery.specs.Beginnings.{bytes_of}
 use Rattle.bx_command.specs.shared.Tables.{NoMemoryInTables, refused_line}
 use Rattle.bx_recovery.specs.Refusals.{CanOpen}
-use Rattle.bx_recovery.proofs.Opened.{reads_all}
 use Rattle.bx_recovery.proofs.RefusalExamples.{a_bad_first_byte}
 use Rattle.bidi_edit.specs.declared.edit.Changes.TheVariants.{Saved, Dropped}
 use Rattle.bidi_edit.specs.declared.fault.ProgramFault.TheVariants as fault
@@ -138,7 +136,7 @@ a_text_that_is_not_utf8 b fault.OutOfMemory none is cause = absurd (is_bad b is 
 -- ---- what follows from the clause of a run
 
 -- a run that is said to have ended saved left no change
-pub a_saved_run : {V : Type 0} (did : V → Action → V → Type 0) (obeyed : V → Session → ByteAnswer → V → Session → Type 0) (stored : V → StoreState)
+pub a_saved_run : {V : Type 0} (did : V → Action → V → Type 0) (obeyed : V → Session → PressAnswer → V → Session → Type 0) (stored : V → StoreState)
     (b : Beginning) (files : UnicodeFiles (Vec ℕ)) (device device' : V) → (e : Edits did obeyed stored b files device device' (Ok Saved))
     → has_changes e.session.editor ≡ false
 a_saved_run did obeyed stored b files device device' e = saved_leaves_nothing e.end (has_changes e.session.editor) (sym e.tells)
@@ -150,32 +148,28 @@ pub a_run_is_recorded : {R J W S : Type 0} (remaining : R → Option (List ℕ))
     (device device' : Wired R J W S) (result : Result Changes ProgramFault)
     → let stored : Wired R J W S → StoreState = λ x. store_state saved faults x.store.now in
     (e : Edits (DidWired remaining contents failures out) (λ from s a to t. ObeyedWired from to) stored b files device device' result)
-    → RunsRecorded contents failures e.tables (begun e.tables b) e.session (stored device) (stored device')
+    → RunsRecorded contents failures e.tables (rest_from [] b.journal) e.runs.waits (begun e.tables b) e.session (stored device) (stored device')
     (remaining device.reader.now) (remaining device'.reader.now) (out device.writer.now) (out device'.writer.now)
     device.recorder.now device'.recorder.now
     × EndsWith e.end e.session (remaining device'.reader.now)
 a_run_is_recorded remaining contents failures out saved faults b files device device' result e = (
-  recorded remaining contents failures out saved faults e.tables most_reads e.end (begun e.tables b) e.session device device' e.runs.logged,
-  ended_with remaining contents failures out saved faults e.tables most_reads e.end (begun e.tables b) e.session device device' e.runs.logged e.runs.ends,
+  recorded remaining contents failures out saved faults e.tables most_reads e.end (rest_from [] b.journal) e.runs.waits (begun e.tables b) e.session
+      device device' e.runs.logged,
+  ended_with remaining contents failures out saved faults e.tables most_reads e.end (rest_from [] b.journal) e.runs.waits (begun e.tables b) e.session
+      device device' e.runs.logged e.runs.ends,
 )
 
 -- a run that stopped at the limit of reads has made all of them
-pub a_run_stops_at_the_limit : {V : Type 0} (did : V → Action → V → Type 0) (obeyed : V → Session → ByteAnswer → V → Session → Type 0)
-    (stored : V → StoreState) (d : Data) (old new : Session) (device device' : V) → (r : RunsTo did obeyed stored d old new device device' (Err ReadLimit))
-    → length r.logged.turns ≡ 1_000_000_000
-a_run_stops_at_the_limit did obeyed stored d old new device device' r = r.logged.order.1
+pub a_run_stops_at_the_limit : {V : Type 0} (did : V → Action → V → Type 0) (obeyed : V → Session → PressAnswer → V → Session → Type 0)
+    (stored : V → StoreState) (d : Data) (rest : List ℕ) (old new : Session) (device device' : V)
+    → (r : RunsTo did obeyed stored d rest old new device device' (Err ReadLimit)) → length r.logged.turns ≡ 1_000_000_000
+a_run_stops_at_the_limit did obeyed stored d rest old new device device' r = r.logged.order.1
 
 -- one that ran out of memory before it began stored nothing
 pub a_run_that_did_not_begin : (Runs : Type 0) (store store' : ℕ) → RunsUnless (Err fault.OutOfMemory) Runs (store' ≡ store) → store' ≡ store
 a_run_that_did_not_begin Runs store store' stays = stays
 
 -- ---- a letter, and a hangup
-
-begun_fresh : (d : Data) (b : Beginning) → b.journal ≡ [] → ((begun d b).rest ≡ []) × ((begun d b).editor.ended ≡ false)
-begun_fresh d b none =
-    let reads = reads_all d b in
-    subst (λ journal. let s = with_painting d (after_journal d (at_offset d b) journal) in (s.rest ≡ []) × (s.editor.ended ≡ false)) (sym none)
-    (reads.0, (ended_goes_on d (at_offset d b).editor).0 ∙ reads.1)
 
 -- the letter x answers nothing that stores a text
 no_answer : (e : Editor) → stores_by e (Some (Insert 0x78)) ≡ false
@@ -187,23 +181,19 @@ no_answer e = by (is_some e.pasted) e.prompt where
   by false prompts.Overwrite = refl
   by false prompt = refl
 
-no_save : (s : Session) → s.rest ≡ [] → s.editor.ended ≡ false → is_save_byte s 0x78 ≡ false
-no_save s fresh goes =
-    ap (λ ended. stores_by s.editor (if ended then None else key_after s.rest 0x78)) goes
-    ∙ ap (λ rest. stores_by s.editor (key_after rest 0x78)) fresh
-    ∙ no_answer s.editor
+no_save : (s : Session) → s.editor.ended ≡ false → is_save_press s (key_after [] 0x78) ≡ false
+no_save s goes = ap (λ ended. stores_by s.editor (if ended then None else key_after [] 0x78)) goes ∙ no_answer s.editor
 
 neither : (applied : Bool) → (applied && false) ≡ false
 neither true = refl
 neither false = refl
 
--- a session that was fed the letter x alone stored nothing
+-- a session that took the press of the letter x alone stored nothing
 pub a_letter_stores_nothing : (d : Data) (b : Beginning) (store store' : StoreState) (answer : Result Status Refused) (new : Session)
-    → b.journal ≡ [] → FeedsAll d (begun d b) store ((0x78, answer) ∷ []) new store' → store' ≡ store
-a_letter_stores_nothing d b store store' answer new none feeds =
-    let fresh = begun_fresh d b none in
-    let is_none = no_save (begun d b) fresh.0 fresh.1 in
-    let none_saved : (is_applied answer && is_save_byte (begun d b) 0x78) ≡ false =
+    → PressesAll d (begun d b) store ((key_after [] 0x78, answer) ∷ []) new store' → store' ≡ store
+a_letter_stores_nothing d b store store' answer new feeds =
+    let is_none = no_save (begun d b) feeds.2 in
+    let none_saved : (is_applied answer && is_save_press (begun d b) (key_after [] 0x78)) ≡ false =
     ap (λ saves. is_applied answer && saves) is_none ∙ neither (is_applied answer) in
     feeds.5.1
     ∙ subst (λ save. StoreAfter save feeds.3.0 (text_to_save d (begun d b).editor) store feeds.1) none_saved feeds.3.1

@@ -1,9 +1,11 @@
 //! What goes to standard error: sentences for a reader, or frames for the host.
 
-ghost use Rattle.std.specs.Prelude.{OnOk, take};
+ghost use Rattle.std.specs.Prelude.{◌≡◌, OnOk, take};
 ghost use Rattle.std.specs.Io.KnownBytes.{Appends};
 ghost use Rattle.bx_bytes.specs.Writing.{WritesFront};
+ghost use Rattle.bx_command.specs.shared.Ending.{status_after, status_of};
 ghost use Rattle.bidi_edit.specs.Ending.{end_of, frame, last_word};
+ghost use Rattle.bidi_edit.specs.Telling.{AreNotes, IsTold};
 
 use crate::edit::Changes;
 use crate::ending::{end_of, end_of_fault};
@@ -13,6 +15,7 @@ use bx_command::{FileFault, JournalNotes, Options, TextFault};
 use bx_input::{END, FAULT, JOURNAL, OPENED, REPLAYED};
 use bx_recovery::Replayed;
 use bx_session::OpenError;
+use std::alloc::Global;
 use std::fmt::{self, Display};
 use std::io::Write;
 use std::process::ExitCode;
@@ -56,16 +59,33 @@ fn tell(rt: &HostRuntime, letter: u8, text: &str) {
     let _ = write_frame(&mut rt.stderr(), letter, text);
 }
 
-/// Writes a frame whose bytes are made for it.
-fn tell_made<T: Display>(rt: &HostRuntime, letter: u8, value: &T) {
-    match format!(in rt.alloc(); "{value}") {
-        Ok(text) => tell(rt, letter, text.as_str()),
-        Err(_) => tell(rt, FAULT, "memory"),
+/// Writes a frame whose bytes are made for it, or, without memory for them, a fault that says so.
+///
+/// Errors: `WriteFault`: a first part of the frame was written.
+fn write_made<T: Display, W: Write>(
+    writer: &mut W,
+    alloc: Global,
+    letter: u8,
+    value: &T,
+) -> Result<(), WriteFault>
+    ensures { OnOk result (IsTold letter (T.output value.now) (W.contents writer.old) (W.contents writer.new)) }
+{
+    match format!(in alloc; "{value}") {
+        Ok(text) => write_frame(writer, letter, text.as_str()),
+        Err(_) => write_frame(writer, FAULT, "memory"),
     }
 }
 
+/// Writes such a frame to standard error.
+fn tell_made<T: Display>(rt: &HostRuntime, letter: u8, value: &T) {
+    // if standard error fails, nothing can be reported
+    let _ = write_made(&mut rt.stderr(), rt.alloc(), letter, value);
+}
+
 /// The notes on a journal, in the form that the options ask for.
-pub fn journal_notes(options: &Options<'_>) -> JournalNotes<'static> {
+pub fn journal_notes(options: &Options<'_>) -> JournalNotes<'static>
+    ensures { AreNotes options.now.frames result }
+{
     if options.frames { FRAMES } else { SENTENCES }
 }
 
@@ -110,6 +130,10 @@ pub fn tell_end<W: Write>(
 struct Word<'f, 'a>(&'f ProgramFault<'a>);
 
 impl fmt::Display for Word<'_, '_> {
+    ghost use Rattle.bidi_edit.specs.Telling.{word_of_fault};
+
+    ghost output = { λ w. word_of_fault w.0.now };
+
     fn fmt<W: fmt::Write>(&self, f: &mut fmt::Formatter<W>) -> fmt::Result {
         let kind = match self.0 {
             ProgramFault::Tables(error) => return write!(f, "tables {error}"),
@@ -128,11 +152,9 @@ impl fmt::Display for Word<'_, '_> {
 }
 
 /// Tells the fault, if there is one, and returns the exit status. The host knows a fault that ended a run already.
-pub fn finish(
-    rt: &HostRuntime,
-    has_frames: bool,
-    outcome: Result<(), ProgramFault<'_>>,
-) -> ExitCode {
+pub fn finish(rt: &HostRuntime, has_frames: bool, outcome: Result<(), ProgramFault<'_>>) -> ExitCode
+    ensures { status_of result ≡ status_after outcome.entry }
+{
     let Err(fault) = outcome else {
         return ExitCode::SUCCESS;
     };

@@ -4,7 +4,9 @@ use Rattle.std.specs.Prelude.{codes}
 use Rattle.std.specs.Fmt.{digits}
 use Rattle.unicode_segmentation.proofs.Computing.{unicode_segmentation}
 use Rattle.unicode_width.proofs.Computing.{unicode_width}
+use Rattle.bx_keys.specs.declared.key.Key.{Key}
 use Rattle.bx_session.proofs.Computed.{start}
+use Rattle.bx_session.specs.Inputs.{presses_from}
 use Rattle.bx_editor.proofs.Computed.{tables}
 use Rattle.bx_session.specs.Session.{Session}
 use Rattle.bx_recovery.specs.declared.replaying.FileText.{FileText}
@@ -17,9 +19,9 @@ use Rattle.bx_recovery.proofs.Texts.{first_is_there, later_is_there}
 abbrev opened : Session
 opened = start (codes "ab") 1 5
 
--- x, Save, y
-abbrev journal : List ℕ
-journal = 0x78 ∷ 0x13 ∷ 0x79 ∷ []
+-- the presses of x, Save, y
+abbrev journal : List (Option Key)
+journal = presses_from [] (0x78 ∷ 0x13 ∷ 0x79 ∷ [])
 
 pub the_replay_types_on : replayed_text tables opened journal ≡ codes "xyab"
 unfolding unicode_segmentation unicode_width digits
@@ -31,8 +33,8 @@ unfolding unicode_segmentation unicode_width digits
 the_texts_that_it_knows = refl
 
 -- x, and the text is saved under the name n: SaveAs is CSI 103~, and a line end completes the answer; then y
-abbrev named : List ℕ
-named = 0x78 ∷ 0x1B ∷ 0x5B ∷ 0x31 ∷ 0x30 ∷ 0x33 ∷ 0x7E ∷ 0x6E ∷ 0x0A ∷ 0x79 ∷ []
+abbrev named : List (Option Key)
+named = presses_from [] (0x78 ∷ 0x1B ∷ 0x5B ∷ 0x31 ∷ 0x30 ∷ 0x33 ∷ 0x7E ∷ 0x6E ∷ 0x0A ∷ 0x79 ∷ [])
 
 -- the opened text, and the one that the answer stored
 pub an_answer_stores_too : known_texts tables opened named ≡ codes "ab" ∷ codes "xab" ∷ []

@@ -1,8 +1,7 @@
 -- A session opened from its files, and what a recovery from it says.
-use Rattle.std.proofs.Common.{◌≡◌, ℕ, Bool, true, false, List, [], Option, None, Some, Result, Ok, Err, refl, sym, ap, subst, ◌∙◌, length}
+use Rattle.std.proofs.Common.{◌≡◌, ℕ, List, [], Option, None, Some, Result, Ok, Err, sym, ap, subst, ◌∙◌}
 use Rattle.std.specs.Prelude.{IfOk, vec_items, unwrap_or}
 use Rattle.std.specs.Global.{Vec}
-use Rattle.bx_keys.specs.Waiting.{keys_from}
 use Rattle.bx_ucd.specs.Data.{Data}
 use Rattle.bx_command.specs.shared.Tables.{AreOfFiles}
 use Rattle.bx_command.specs.declared.shared.unicode.UnicodeFiles.{UnicodeFiles}
@@ -40,28 +39,6 @@ opened_is {D} ucd tables first set new text b offset is kept told queued same se
       paints = subst (QueuesPicture (ucd tables) [] None) begins (subst (λ (t : D). QueuesPicture (ucd t) [] None set.session) stays queued);
     } in subst (λ (t : D). IsOpened (ucd t) b new.session) (sym last) there
 
--- ---- no byte is read yet
-
-abbrev ReadsNone : Session → Type 0
-ReadsNone s = (s.rest ≡ []) × (s.editor.ended ≡ false)
-
-with_clipboard_reads : (clipboard : Bool) (s : Session) → ReadsNone s → ReadsNone (clipboard_if clipboard s)
-with_clipboard_reads true s h = h
-with_clipboard_reads false s h = h
-
-going_reads : (d : Data) (s : Session) (offset : Option ℕ) → ReadsNone s → ReadsNone (after_going_to d s offset)
-going_reads d s None h = h
-going_reads d s (Some offset) h = h
-
-unsaved_reads : (unsaved : Bool) (s : Session) → ReadsNone s → ReadsNone (changed_if unsaved s)
-unsaved_reads true s h = h
-unsaved_reads false s h = h
-
-pub reads_all : (d : Data) (b : Beginning) → ((at_offset d b).rest ≡ []) × ((at_offset d b).editor.ended ≡ false)
-reads_all d b =
-    let first : Session = clipboard_if b.clipboard (opened d b) in
-    unsaved_reads b.unsaved (after_going_to d first b.offset) (going_reads d first b.offset (with_clipboard_reads b.clipboard (opened d b) (refl, refl)))
-
 -- ---- what is recovered
 
 pub recovers_of : {E : Type 0} (b : Beginning) (files : UnicodeFiles (Vec ℕ)) (file : List ℕ) (d : Data) (s : Session) (r : Result Replayed E)
@@ -70,11 +47,10 @@ pub recovers_of : {E : Type 0} (b : Beginning) (files : UnicodeFiles (Vec ℕ)) 
 recovers_of b files file d s (Err fault) store store' are begins recovers = tt
 recovers_of b files file d s (Ok x) store store' are begins recovers =
     let from : RecoversFrom d (at_offset d b) b.journal file x store store' =
-    subst (λ (t : Session). RecoversFrom d t b.journal file x store store') begins.session recovers in
-    let reads = reads_all d b in record {
+    subst (λ (t : Session). RecoversFrom d t b.journal file x store store') begins.session recovers in record {
       tables = d;
       answers = are;
       stored = from.stored;
       holds = from.holds;
-      keys = from.keys reads.1 ∙ ap (λ rest. length (keys_from rest b.journal)) reads.0;
+      keys = from.keys;
     }

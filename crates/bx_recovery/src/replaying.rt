@@ -1,13 +1,13 @@
 //! Replay of a journal's keys, and what the edited file holds, compared with the texts that the replay goes through.
 
 ghost use Rattle.std.specs.Prelude.{◌≡◌, ◌<◌, ◌+◌, ◌-◌, ◌⊎◌, ◌↔◌, ◌^◌, IfOk, OnErr, OnOk, IsTrue, IsFalse, true, false, length};
-ghost use Rattle.std.specs.Prelude.{option_to_list};
-ghost use Rattle.bx_keys.specs.Waiting.{keys_from};
+ghost use Rattle.std.specs.Prelude.{[], option_to_list};
+ghost use Rattle.bx_session.specs.Inputs.{keys_in, presses_from, rest_from};
 ghost use Rattle.bx_session.specs.Laws.{after_journal};
 ghost use Rattle.bx_recovery.specs.Recovery.{HoldsBeside};
 
 use crate::fault::RecoveryFault;
-use bx_keys::Key;
+use bx_keys::{Decoder, Key};
 use bx_session::Session;
 use bx_ucd::BidiData;
 use std::fmt;
@@ -34,6 +34,11 @@ pub struct Replayed {
 
 // The line that `bidi_edit --to` writes.
 impl fmt::Display for Replayed {
+    ghost use Rattle.std.specs.Prelude.{Some};
+    ghost use Rattle.bx_recovery.specs.Recovery.{line_of};
+
+    ghost output = { λ r. Some (line_of r) };
+
     fn fmt<W: fmt::Write>(&self, f: &mut fmt::Formatter<W>) -> fmt::Result {
         let keys = self.keys;
         match self.held {
@@ -44,23 +49,26 @@ impl fmt::Display for Replayed {
     }
 }
 
-/// Replays the bytes `keys` of a journal without painting.
+/// Replays the bytes `keys` of a journal without painting. Returns the decoder, by which a run goes on: the journal can end within a key.
 ///
 /// Errors: `OutOfMemory`; the keys before the refused one are applied.
 pub fn replay<D: BidiData + Drop>(
     session: &mut Session<D>,
     keys: &[u8],
-) -> Result<(), RecoveryFault>
+) -> Result<Decoder, RecoveryFault>
     ensures tables { session.new.tables ≡ session.old.tables }
     ensures replays { OnOk result (session.new.session
-        ≡ after_journal (D.data session.old.tables) session.old.session keys.now) }
+        ≡ after_journal (D.data session.old.tables) session.old.session (presses_from [] keys.now)) }
+    ensures waits { IfOk result (λ decoder. decoder ≡ rest_from [] keys.now) }
     ensures err { OnErr result (result ≡ Err RecoveryFault.OutOfMemory) }
 {
+    let mut decoder = Decoder::new();
     for byte in keys {
-        session.replay(*byte)?;
+        let key = decoder.feed(*byte);
+        session.press_again(key)?;
     }
     session.end_replay()?;
-    Ok(())
+    Ok(decoder)
 }
 
 /// What a replay has met so far.
@@ -72,7 +80,7 @@ struct Met {
     keys: u64,
 }
 
-/// What a replay has met once it took a byte, which completed this key, if any, and led to `session`. `stores`: the key stores the text.
+/// What a replay has met once it took a press, with this key, if any, which led to `session`. `stores`: the key stores the text.
 fn met_with<D: BidiData + Drop>(
     met: Met,
     session: &Session<D>,
@@ -121,20 +129,20 @@ pub fn replay_beside<D: BidiData + Drop>(
 ) -> Result<Replayed, RecoveryFault>
     ensures tables { session.new.tables ≡ session.old.tables }
     ensures replays { OnOk result (session.new.session
-        ≡ after_journal (D.data session.old.tables) session.old.session keys.now) }
-    ensures holds { IfOk result (λ r. HoldsBeside (D.data session.old.tables) session.old.session keys.now file.now r.held) }
-    ensures keys { session.old.session.editor.ended ≡ false
-        → IfOk result (λ r. r.keys ≡ length (keys_from session.old.session.rest keys.now)) }
+        ≡ after_journal (D.data session.old.tables) session.old.session (presses_from [] keys.now)) }
+    ensures holds { IfOk result (λ r. HoldsBeside (D.data session.old.tables) session.old.session (presses_from [] keys.now) file.now r.held) }
+    ensures keys { IfOk result (λ r. r.keys ≡ length (keys_in (presses_from [] keys.now))) }
     ensures err { OnErr result (result ≡ Err RecoveryFault.OutOfMemory) }
 {
     let mut met = Met {
         is_known: session.has_text(file),
         keys: 0,
     };
+    let mut decoder = Decoder::new();
     for byte in keys {
-        let key = session.key_of(*byte);
-        let stores = session.stores(*byte);
-        session.replay(*byte)?;
+        let key = decoder.feed(*byte);
+        let stores = session.stores(key);
+        session.press_again(key)?;
         met = met_with(met, session, key, stores, file);
     }
     session.end_replay()?;

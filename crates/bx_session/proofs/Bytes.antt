@@ -1,4 +1,4 @@
--- The session after a byte and after a told size, from the contracts of the calls within.
+-- The session after a press and after a told size, from the contracts of the calls within.
 use Rattle.std.proofs.Common.{◌≡◌, ℕ, Bool, true, false, List, [], drop, Option, Some, None, Result, Ok, Err, IsUtf8, refl, sym, ap, subst, ◌∙◌, if◌then◌else◌}
 use Rattle.std.specs.Prelude.{not, ◌||◌, ◌&&◌, is_ok, is_some, IfErr, IsOk, OnOk, OnErr}
 use Rattle.std.specs.Result.{result_err}
@@ -6,8 +6,6 @@ use Rattle.bx_common.specs.Characters.{is_side}
 use Rattle.bx_common.specs.declared.base.Base.{Base}
 use Rattle.bx_grid.specs.Picture.{PictureState, is_size}
 use Rattle.bx_keys.specs.declared.key.Key.{Key}
-use Rattle.bx_keys.specs.Keys.{rest_after}
-use Rattle.bx_keys.specs.Waiting.{head_of}
 use Rattle.bx_store.specs.Faults.{with_fault}
 use Rattle.bx_store.specs.declared.store.StoreFault.{StoreFault}
 use Rattle.bx_ucd.specs.Data.{Data}
@@ -17,14 +15,14 @@ use Rattle.bx_editor.specs.Keys.{asks_for_whole}
 use Rattle.bx_editor.specs.declared.scrolling.Scroll.{Scroll}
 use Rattle.bx_session.specs.declared.status.Refused.{Refused}
 use Rattle.bx_session.specs.declared.status.Refused.TheVariants.{Edit, Paint, Size}
-use Rattle.bx_session.specs.Session.{Session, with_painting, with_painting_owed, with_picture, at_opening, before_painting, key_of_byte}
-use Rattle.bx_session.specs.Session.{after_spending, session_after_any, unpainted_after_byte, is_painted, needs_painting, painted_after, scroll_behind}
-use Rattle.bx_session.specs.Session.{picture_of, after_byte, session_after_key, unpainted_after_told, SaveEnds, StoreAfter, StoreState, may_refuse_key}
-use Rattle.bx_session.specs.Session.{is_save_byte, stores_by, text_to_save, with_settings, with_text}
+use Rattle.bx_session.specs.Session.{Session, with_painting, with_painting_owed, with_picture, at_opening, before_painting, counted_key}
+use Rattle.bx_session.specs.Session.{session_after_any, unpainted_after_press, is_painted_press, needs_painting, painted_after, scroll_behind}
+use Rattle.bx_session.specs.Session.{picture_of, after_press, session_after_key, unpainted_after_told, SaveEnds, StoreAfter, StoreState, may_refuse_key}
+use Rattle.bx_session.specs.Session.{is_save_press, stores_by, text_to_save, with_settings, with_text}
 use Rattle.bx_editor.specs.Settings.{SettingsState}
 use Rattle.bx_editor.specs.Settings as editor_settings
-use Rattle.bx_session.specs.Feeding.{SessionState, is_idle, AfterByte, ToldBy}
-use Rattle.bx_session.specs.Painting.{AppendsPainting, FeedAppends, QueuesPicture, FeedPaints}
+use Rattle.bx_session.specs.Feeding.{SessionState, is_idle_press, AfterPress, ToldBy}
+use Rattle.bx_session.specs.Painting.{AppendsPainting, PressAppends, QueuesPicture, PressPaints}
 use Rattle.bx_session.specs.declared.status.Status.{Status}
 use Rattle.bx_session.proofs.KeySizes.{same_ended}
 use Rattle.bx_session.proofs.Tops.{opening_stays}
@@ -44,25 +42,23 @@ at_opening_is d text height width base has =
     let s = before_painting text height width base in
     ap (λ top. with_picture s (with_top s.editor top) (picture_of d (with_top s.editor top))) (opening_stays d text height width base has)
 
-pub opening_is : {D : Type 0} (ucd : D → Data) (tables : D) (text : List ℕ) (height width : ℕ) (base : Base) (e : EditorState D) (rest queue : List ℕ)
+pub opening_is : {D : Type 0} (ucd : D → Data) (tables : D) (text : List ℕ) (height width : ℕ) (base : Base) (e : EditorState D) (queue : List ℕ)
     (new : SessionState D) → IsUtf8 text → is_size height width ≡ true
-    → e ≡ record { tables = tables; editor = at_start text height width base } → rest ≡ [] → queue ≡ []
+    → e ≡ record { tables = tables; editor = at_start text height width base } → queue ≡ []
     → new.tables ≡ e.tables
     → new.session ≡ with_painting (ucd e.tables) (record {
       editor = e.editor;
-      rest = rest;
       painted = None;
       known = None;
       painting_owed = false;
       pending = drop 0 queue;
     })
     → new ≡ record { tables = tables; session = at_opening (ucd tables) text height width base }
-opening_is {D} ucd tables text height width base e rest queue new utf8 sized is waits empty same painted =
+opening_is {D} ucd tables text height width base e queue new utf8 sized is empty same painted =
     let state : new.session ≡ at_opening (ucd tables) text height width base =
     painted
     ∙ ap (λ (x : EditorState D). with_painting (ucd x.tables) (record {
       editor = x.editor;
-      rest = rest;
       painted = None;
       known = None;
       painting_owed = false;
@@ -70,15 +66,6 @@ opening_is {D} ucd tables text height width base e rest queue new utf8 sized is 
     })) is
     ∙ ap (λ xs. with_painting (ucd tables) (record {
       editor = at_start text height width base;
-      rest = xs;
-      painted = None;
-      known = None;
-      painting_owed = false;
-      pending = drop 0 queue;
-    })) waits
-    ∙ ap (λ xs. with_painting (ucd tables) (record {
-      editor = at_start text height width base;
-      rest = [];
       painted = None;
       known = None;
       painting_owed = false;
@@ -111,63 +98,29 @@ press_stored (Ok value) stores stored fault text text' old new is same ok h =
 press_stored (Err e) true stored fault text text' old new is same ok h = absurd (cc (ok refl))
 press_stored (Err e) false stored fault text text' old new is same ok h = h
 
--- ---- a byte
+-- ---- a press
 
-pub spent_editor : (s : Session) (b : ℕ) → (after_spending s b).editor ≡ s.editor
-spent_editor s b = by s.editor.ended where
-  by : (ended : Bool) → (if ended then s else record s { rest = head_of (rest_after s.rest b) }).editor ≡ s.editor
-  by true = refl
-  by false = refl
+stores_counted : (s : Session) (key counts : Option Key) (pressed : Key) → counts ≡ counted_key s key → counts ≡ Some pressed
+    → stores_by s.editor (Some pressed) ≡ is_save_press s key
+stores_counted s key counts pressed is some = ap (λ (k : Option Key). stores_by s.editor k) (sym some ∙ is)
 
-pub spent_owed : (s : Session) (b : ℕ) → (after_spending s b).painting_owed ≡ s.painting_owed
-spent_owed s b = by s.editor.ended where
-  by : (ended : Bool) → (if ended then s else record s { rest = head_of (rest_after s.rest b) }).painting_owed ≡ s.painting_owed
-  by true = refl
-  by false = refl
+pub stores_none : (s : Session) (key counts : Option Key) (pressed : Key) → counts ≡ counted_key s key → counts ≡ Some pressed
+    → is_save_press s key ≡ false → stores_by s.editor (Some pressed) ≡ false
+stores_none s key counts pressed is some none = stores_counted s key counts pressed is some ∙ none
 
--- what is asked once the byte is spent
-pub asks_for : (s : Session) (b : ℕ) (key : Option Key) → key ≡ key_of_byte s b
-    → ((after_spending s b).painting_owed || needs_painting (after_spending s b).editor key) ≡ is_painted s b
-asks_for s b key is =
-    ap (λ owed. owed || needs_painting (after_spending s b).editor key) (spent_owed s b)
-    ∙ ap (λ (e : Editor). s.painting_owed || needs_painting e key) (spent_editor s b)
-    ∙ ap (λ k. s.painting_owed || needs_painting s.editor k) is
+pub entered_store : (d : Data) (fault : Option StoreFault) (s : Session) (before after : StoreState) (key counts : Option Key) (pressed : Key)
+    → counts ≡ counted_key s key → counts ≡ Some pressed
+    → StoreAfter (stores_by s.editor (Some pressed)) fault (text_to_save d s.editor) before after
+    → StoreAfter (is_save_press s key) fault (text_to_save d s.editor) before after
+entered_store d fault s before after key counts pressed is some h =
+    subst (λ (stores : Bool). StoreAfter stores fault (text_to_save d s.editor) before after) (stores_counted s key counts pressed is some) h
 
--- a byte's key, once the byte is spent, stores what it would store
-stores_entered : {D : Type 0} (old mid : SessionState D) (b : ℕ) (key : Option Key) (pressed : Key) → key ≡ key_of_byte old.session b
-    → mid ≡ record old { session = after_spending old.session b } → key ≡ Some pressed
-    → stores_by mid.session.editor (Some pressed) ≡ is_save_byte old.session b
-stores_entered {D} old mid b key pressed completes is some =
-    ap (λ (k : Option Key). stores_by mid.session.editor k) (sym some ∙ completes)
-    ∙ ap (λ (x : SessionState D). stores_by x.session.editor (key_of_byte old.session b)) is
-    ∙ ap (λ (e : Editor). stores_by e (key_of_byte old.session b)) (spent_editor old.session b)
-
-pub stores_none : {D : Type 0} (old mid : SessionState D) (b : ℕ) (key : Option Key) (pressed : Key) → key ≡ key_of_byte old.session b
-    → mid ≡ record old { session = after_spending old.session b } → key ≡ Some pressed → is_save_byte old.session b ≡ false
-    → stores_by mid.session.editor (Some pressed) ≡ false
-stores_none {D} old mid b key pressed completes is some none = stores_entered old mid b key pressed completes is some ∙ none
-
-pub entered_store : {D : Type 0} (ucd : D → Data) (fault : Option StoreFault) (old mid : SessionState D) (before after : StoreState) (b : ℕ)
-    (key : Option Key) (pressed : Key) → key ≡ key_of_byte old.session b → mid ≡ record old { session = after_spending old.session b }
-    → key ≡ Some pressed
-    → StoreAfter (stores_by mid.session.editor (Some pressed)) fault (text_to_save (ucd mid.tables) mid.session.editor) before after
-    → StoreAfter (is_save_byte old.session b) fault (text_to_save (ucd old.tables) old.session.editor) before after
-entered_store {D} ucd fault old mid before after b key pressed completes is some h =
-    let text : text_to_save (ucd mid.tables) mid.session.editor ≡ text_to_save (ucd old.tables) old.session.editor =
-    ap (λ (x : SessionState D). text_to_save (ucd x.tables) x.session.editor) is
-    ∙ ap (λ (e : Editor). text_to_save (ucd old.tables) e) (spent_editor old.session b) in
-    subst (λ (stores : Bool). StoreAfter stores fault (text_to_save (ucd old.tables) old.session.editor) before after)
-    (stores_entered old mid b key pressed completes is some)
-    (subst (λ (xs : List ℕ). StoreAfter (stores_by mid.session.editor (Some pressed)) fault xs before after) text h)
-
-pub entered_is : {D : Type 0} (ucd : D → Data) (fault : Option StoreFault) (old mid new : SessionState D) (b : ℕ) (key : Option Key) (pressed : Key)
-    → key ≡ key_of_byte old.session b → mid ≡ record old { session = after_spending old.session b } → key ≡ Some pressed
-    → new ≡ record mid { session = session_after_key (ucd mid.tables) fault mid.session pressed }
-    → new ≡ record old { session = unpainted_after_byte (ucd old.tables) fault old.session b }
-entered_is {D} ucd fault old mid new b key pressed completes is some entered =
-    entered
-    ∙ ap (λ (x : SessionState D). record x { session = session_after_key (ucd x.tables) fault x.session pressed }) is
-    ∙ ap (λ (k : Option Key). record old { session = session_after_any (ucd old.tables) fault (after_spending old.session b) k }) (sym some ∙ completes)
+pub entered_is : {D : Type 0} (ucd : D → Data) (fault : Option StoreFault) (old new : SessionState D) (key counts : Option Key) (pressed : Key)
+    → counts ≡ counted_key old.session key → counts ≡ Some pressed
+    → new ≡ record old { session = session_after_key (ucd old.tables) fault old.session pressed }
+    → new ≡ record old { session = unpainted_after_press (ucd old.tables) fault old.session key }
+entered_is {D} ucd fault old new key counts pressed is some entered =
+    entered ∙ ap (λ (k : Option Key). record old { session = session_after_any (ucd old.tables) fault old.session k }) (sym some ∙ is)
 
 with_clip_if : (paints : Bool) (plain painted new : Session) → paints ≡ true → new ≡ painted → new ≡ (if paints then painted else plain)
 with_clip_if true plain painted new is h = h
@@ -177,80 +130,78 @@ plain_if : (paints : Bool) (plain painted new : Session) → paints ≡ false �
 plain_if true plain painted new is h = absurd (cc is)
 plain_if false plain painted new is h = h
 
--- a byte after which the picture was painted
-pub after_byte_is : {D : Type 0} (ucd : D → Data) (fault : Option StoreFault) (old mid new : SessionState D) (b : ℕ) (scroll : Scroll) (key : Option Key)
-    → is_painted old.session b ≡ true → scroll ≡ scroll_behind old.session.editor (key_of_byte old.session b) → key ≡ key_of_byte old.session b
-    → mid ≡ record old { session = unpainted_after_byte (ucd old.tables) fault old.session b }
-    → new.session ≡ painted_after (ucd mid.tables) scroll mid.session key → new.session ≡ after_byte (ucd old.tables) fault old.session b
-after_byte_is {D} ucd fault old mid new b scroll key prompts asks is e painted =
+-- a press after which the picture was painted
+pub after_press_is : {D : Type 0} (ucd : D → Data) (fault : Option StoreFault) (old mid new : SessionState D) (scroll : Scroll) (key counts : Option Key)
+    → is_painted_press old.session key ≡ true → scroll ≡ scroll_behind old.session.editor (counted_key old.session key)
+    → counts ≡ counted_key old.session key
+    → mid ≡ record old { session = unpainted_after_press (ucd old.tables) fault old.session key }
+    → new.session ≡ painted_after (ucd mid.tables) scroll mid.session counts → new.session ≡ after_press (ucd old.tables) fault old.session key
+after_press_is {D} ucd fault old mid new scroll key counts prompts asks is e painted =
     let d = ucd old.tables in
-    let u = unpainted_after_byte d fault old.session b in
-    let way = scroll_behind old.session.editor (key_of_byte old.session b) in
-    with_clip_if (is_painted old.session b) u (painted_after d way u (key_of_byte old.session b)) new.session prompts
+    let u = unpainted_after_press d fault old.session key in
+    let way = scroll_behind old.session.editor (counted_key old.session key) in
+    with_clip_if (is_painted_press old.session key) u (painted_after d way u (counted_key old.session key)) new.session prompts
     (painted
-    ∙ ap (λ (x : SessionState D). painted_after (ucd x.tables) scroll x.session key) e
+    ∙ ap (λ (x : SessionState D). painted_after (ucd x.tables) scroll x.session counts) e
     ∙ ap (painted_after d scroll u) is
-    ∙ ap (λ (w : Scroll). painted_after d w u (key_of_byte old.session b)) asks)
+    ∙ ap (λ (w : Scroll). painted_after d w u (counted_key old.session key)) asks)
 
 -- one that needs no painting
-pub quiet_is : {D : Type 0} (ucd : D → Data) (fault : Option StoreFault) (old new : SessionState D) (b : ℕ) → is_painted old.session b ≡ false
-    → new ≡ record old { session = unpainted_after_byte (ucd old.tables) fault old.session b }
-    → new.session ≡ after_byte (ucd old.tables) fault old.session b
-quiet_is {D} ucd fault old new b unasked e =
+pub quiet_is : {D : Type 0} (ucd : D → Data) (fault : Option StoreFault) (old new : SessionState D) (key : Option Key)
+    → is_painted_press old.session key ≡ false
+    → new ≡ record old { session = unpainted_after_press (ucd old.tables) fault old.session key }
+    → new.session ≡ after_press (ucd old.tables) fault old.session key
+quiet_is {D} ucd fault old new key unasked e =
     let d = ucd old.tables in
-    let u = unpainted_after_byte d fault old.session b in
-    let way = scroll_behind old.session.editor (key_of_byte old.session b) in
-    plain_if (is_painted old.session b) u (painted_after d way u (key_of_byte old.session b)) new.session unasked (ap (λ (x : SessionState D). x.session) e)
+    let u = unpainted_after_press d fault old.session key in
+    let way = scroll_behind old.session.editor (counted_key old.session key) in
+    plain_if (is_painted_press old.session key) u (painted_after d way u (counted_key old.session key)) new.session unasked
+    (ap (λ (x : SessionState D). x.session) e)
 
-pub owing_is : {D : Type 0} (ucd : D → Data) (fault : Option StoreFault) (old mid new : SessionState D) (b : ℕ) (result : Result Status Refused)
-    → is_painted old.session b ≡ true → mid ≡ record old { session = unpainted_after_byte (ucd old.tables) fault old.session b }
-    → new.session ≡ with_painting_owed mid.session → result ≡ Err Paint → AfterByte (ucd old.tables) fault old.session b result new.session
-owing_is {D} ucd fault old mid new b result prompts e owed is =
-    subst (λ r. AfterByte (ucd old.tables) fault old.session b r new.session) (sym is)
+pub owing_is : {D : Type 0} (ucd : D → Data) (fault : Option StoreFault) (old mid new : SessionState D) (key : Option Key) (result : Result Status Refused)
+    → is_painted_press old.session key ≡ true → mid ≡ record old { session = unpainted_after_press (ucd old.tables) fault old.session key }
+    → new.session ≡ with_painting_owed mid.session → result ≡ Err Paint → AfterPress (ucd old.tables) fault old.session key result new.session
+owing_is {D} ucd fault old mid new key result prompts e owed is =
+    subst (λ r. AfterPress (ucd old.tables) fault old.session key r new.session) (sym is)
     (owed ∙ ap (λ (x : SessionState D). with_painting_owed x.session) e, prompts)
 
--- ---- a byte that completes no key
+-- ---- a press of no key
 
-idle_key : (s : Session) (b : ℕ) → is_idle s b ≡ true → (key_of_byte s b ≡ None) × (s.painting_owed ≡ false)
-idle_key s b idle = by (key_of_byte s b) s.painting_owed idle where
-  by : (key : Option Key) (owed : Bool) → (not (is_some key) && not owed) ≡ true → (key ≡ None) × (owed ≡ false)
+idle_key : (s : Session) (key : Option Key) → is_idle_press s key ≡ true → (counted_key s key ≡ None) × (s.painting_owed ≡ false)
+idle_key s key idle = by (counted_key s key) s.painting_owed idle where
+  by : (counts : Option Key) (owed : Bool) → (not (is_some counts) && not owed) ≡ true → (counts ≡ None) × (owed ≡ false)
   by None false h = (refl, refl)
   by None true h = absurd (cc h)
-  by (Some key) owed h = absurd (cc h)
+  by (Some pressed) owed h = absurd (cc h)
 
-pub idle_unpainted : (s : Session) (b : ℕ) → is_idle s b ≡ true → is_painted s b ≡ false
-idle_unpainted s b idle =
-    let none = idle_key s b idle in
-    ap (λ owed. owed || needs_painting s.editor (key_of_byte s b)) none.1 ∙ ap (needs_painting s.editor) none.0
+pub idle_unpainted : (s : Session) (key : Option Key) → is_idle_press s key ≡ true → is_painted_press s key ≡ false
+idle_unpainted s key idle =
+    let none = idle_key s key idle in
+    ap (λ owed. owed || needs_painting s.editor (counted_key s key)) none.1 ∙ ap (needs_painting s.editor) none.0
 
-pub not_idle : (s : Session) (b : ℕ) → is_painted s b ≡ true → is_idle s b ≡ true → ⊥
-not_idle s b painted idle = let both : false ≡ true = sym (idle_unpainted s b idle) ∙ painted in cc both
+pub not_idle : (s : Session) (key : Option Key) → is_painted_press s key ≡ true → is_idle_press s key ≡ true → ⊥
+not_idle s key painted idle = let both : false ≡ true = sym (idle_unpainted s key idle) ∙ painted in cc both
 
 -- what holds where an answer is a refusal
 pub refused_with : {A E P : Type 0} (result : Result A E) → P → OnErr result P
 refused_with (Ok value) h = tt
 refused_with (Err e) h = h
 
-pub idle_not_refused : (s : Session) (b : ℕ) → is_idle s b ≡ true → may_refuse_key s.editor (key_of_byte s b) ≡ true → ⊥
-idle_not_refused s b idle refuses = let same : false ≡ true = ap (may_refuse_key s.editor) (sym (idle_key s b idle).0) ∙ refuses in cc same
+pub idle_not_refused : (s : Session) (key : Option Key) → is_idle_press s key ≡ true → may_refuse_key s.editor (counted_key s key) ≡ true → ⊥
+idle_not_refused s key idle refuses = let same : false ≡ true = ap (may_refuse_key s.editor) (sym (idle_key s key idle).0) ∙ refuses in cc same
 
-pub idle_alone : (d : Data) (fault : Option StoreFault) (s : Session) (b : ℕ) → is_idle s b ≡ true
-    → unpainted_after_byte d fault s b ≡ after_spending s b
-idle_alone d fault s b idle = ap (session_after_any d fault (after_spending s b)) (idle_key s b idle).0
+pub idle_alone : (d : Data) (fault : Option StoreFault) (s : Session) (key : Option Key) → is_idle_press s key ≡ true
+    → unpainted_after_press d fault s key ≡ s
+idle_alone d fault s key idle = ap (session_after_any d fault s) (idle_key s key idle).0
 
 -- ---- the knowledge of the screen before the painting
-
-same_pending : (ended : Bool) (s : Session) (rest : List ℕ) → (if ended then s else record s { rest = rest }).pending ≡ s.pending
-same_pending true s rest = refl
-same_pending false s rest = refl
 
 pub same_pending_after : (d : Data) (fault : Option StoreFault) (s : Session) (key : Option Key) → (session_after_any d fault s key).pending ≡ s.pending
 same_pending_after d fault s None = refl
 same_pending_after d fault s (Some key) = refl
 
-pub unpainted_pending : (d : Data) (fault : Option StoreFault) (s : Session) (b : ℕ) → (unpainted_after_byte d fault s b).pending ≡ s.pending
-unpainted_pending d fault s b =
-    same_pending_after d fault (after_spending s b) (key_of_byte s b) ∙ same_pending s.editor.ended s (head_of (rest_after s.rest b))
+pub unpainted_pending : (d : Data) (fault : Option StoreFault) (s : Session) (key : Option Key) → (unpainted_after_press d fault s key).pending ≡ s.pending
+unpainted_pending d fault s key = same_pending_after d fault s (counted_key s key)
 
 -- it does not depend on a Save's success
 same_screen_after : (d : Data) (fault : Option StoreFault) (s : Session) (key : Option Key)
@@ -258,29 +209,28 @@ same_screen_after : (d : Data) (fault : Option StoreFault) (s : Session) (key : 
 same_screen_after d fault s None = refl
 same_screen_after d fault s (Some key) = ap (λ ended. if asks_for_whole key || ended then None else s.known) (same_ended d fault s.editor key)
 
--- what is said of the queue and of the screen before the byte's key was applied
-byte_says : {D : Type 0} (Says : Data → List ℕ → Option PictureState → Type 0) (ucd : D → Data) (fault : Option StoreFault) (old mid : SessionState D) (b : ℕ)
-    → mid ≡ record old { session = unpainted_after_byte (ucd old.tables) fault old.session b }
+-- what is said of the queue and of the screen before the press's key was applied
+press_says : {D : Type 0} (Says : Data → List ℕ → Option PictureState → Type 0) (ucd : D → Data) (fault : Option StoreFault) (old mid : SessionState D)
+    (key : Option Key) → mid ≡ record old { session = unpainted_after_press (ucd old.tables) fault old.session key }
     → Says (ucd mid.tables) mid.session.pending mid.session.known
-    → Says (ucd old.tables) old.session.pending (unpainted_after_byte (ucd old.tables) None old.session b).known
-byte_says {D} Says ucd fault old mid b e h =
+    → Says (ucd old.tables) old.session.pending (unpainted_after_press (ucd old.tables) None old.session key).known
+press_says {D} Says ucd fault old mid key e h =
     let d = ucd old.tables in
-    let s = after_spending old.session b in
-    let key = key_of_byte old.session b in
-    let pending : (session_after_any d fault s key).pending ≡ old.session.pending = unpainted_pending d fault old.session b in
-    subst (λ (q : List ℕ). Says d q (session_after_any d None s key).known) pending
-    (subst (λ (p : Option PictureState). Says d (session_after_any d fault s key).pending p) (same_screen_after d fault s key)
+    let s = old.session in
+    let counts = counted_key s key in
+    subst (λ (q : List ℕ). Says d q (session_after_any d None s counts).known) (unpainted_pending d fault s key)
+    (subst (λ (p : Option PictureState). Says d (session_after_any d fault s counts).pending p) (same_screen_after d fault s counts)
     (subst (λ (x : SessionState D). Says (ucd x.tables) x.session.pending x.session.known) e h))
 
-pub byte_paints : {D : Type 0} (ucd : D → Data) (fault : Option StoreFault) (old mid : SessionState D) (new : Session) (b : ℕ)
-    → mid ≡ record old { session = unpainted_after_byte (ucd old.tables) fault old.session b }
-    → QueuesPicture (ucd mid.tables) mid.session.pending mid.session.known new → FeedPaints (ucd old.tables) old.session b new
-byte_paints ucd fault old mid new b e h = byte_says (λ d before known. QueuesPicture d before known new) ucd fault old mid b e h
+pub press_paints : {D : Type 0} (ucd : D → Data) (fault : Option StoreFault) (old mid : SessionState D) (new : Session) (key : Option Key)
+    → mid ≡ record old { session = unpainted_after_press (ucd old.tables) fault old.session key }
+    → QueuesPicture (ucd mid.tables) mid.session.pending mid.session.known new → PressPaints (ucd old.tables) old.session key new
+press_paints ucd fault old mid new key e h = press_says (λ d before known. QueuesPicture d before known new) ucd fault old mid key e h
 
-pub byte_appends : {D : Type 0} (ucd : D → Data) (fault : Option StoreFault) (old mid : SessionState D) (new : Session) (b : ℕ)
-    → mid ≡ record old { session = unpainted_after_byte (ucd old.tables) fault old.session b }
-    → AppendsPainting (ucd mid.tables) mid.session.pending mid.session.known new → FeedAppends (ucd old.tables) old.session b new
-byte_appends ucd fault old mid new b e h = byte_says (λ d before known. AppendsPainting d before known new) ucd fault old mid b e h
+pub press_appends : {D : Type 0} (ucd : D → Data) (fault : Option StoreFault) (old mid : SessionState D) (new : Session) (key : Option Key)
+    → mid ≡ record old { session = unpainted_after_press (ucd old.tables) fault old.session key }
+    → AppendsPainting (ucd mid.tables) mid.session.pending mid.session.known new → PressAppends (ucd old.tables) old.session key new
+press_appends ucd fault old mid new key e h = press_says (λ d before known. AppendsPainting d before known new) ucd fault old mid key e h
 
 -- ---- settings
 

@@ -20,11 +20,11 @@ use Rattle.bx_editor.specs.Saving.{Saving, can_save, is_empty_name, own_saving}
 use Rattle.bx_editor.specs.Scrolling.{scroll_of}
 use Rattle.bx_editor.proofs.EffectsKept as kept
 use Rattle.bx_editor.proofs.Pasted.{ended-none}
-use Rattle.bx_session.specs.Session.{Session, after_spending, key_of_byte, known_after, ready_to_store, session_after_key, text_to_save, with_painting_owed}
+use Rattle.bx_session.specs.Session.{Session, counted_key, known_after, ready_to_store, session_after_key, text_to_save, with_painting_owed}
 use Rattle.bx_session.specs.Parts.{is_quit}
 use Rattle.bx_session.specs.Feeding.{SessionState}
-use Rattle.bx_session.specs.Replaying.{after_passed, after_replay, after_replayed_key, session_after_replayed, session_moved_by}
-use Rattle.bx_session.specs.Replaying.{session_replayed_on, session_scrolled, unmoved_after_key, unmoved_after_replay}
+use Rattle.bx_session.specs.Replaying.{after_passed, after_replayed_key, after_replayed_press, session_after_replayed, session_moved_by}
+use Rattle.bx_session.specs.Replaying.{session_replayed_on, session_scrolled, unmoved_after_key, unmoved_after_press}
 use Rattle.bx_session.proofs.KeyKinds.{quit_stores_nothing, stores}
 
 -- no paste is under way any more
@@ -318,25 +318,17 @@ moved_is {D} ucd old mid new key scroll asks is moved =
     ∙ ap (λ (x : SessionState D). record x { session = session_moved_by (ucd x.tables) scroll x.session }) is
     ∙ ap (λ (way : Scroll). record old { session = session_moved_by (ucd old.tables) way (unmoved_after_key (ucd old.tables) old.session (Some key)) }) asks
 
--- a byte, once it is decoded
-pub replay_is : {D : Type 0} (ucd : D → Data) (old mid new : SessionState D) (b : ℕ) (key : Option Key) → key ≡ key_of_byte old.session b
-    → mid ≡ record old { session = after_spending old.session b }
-    → new ≡ record mid { session = after_replayed_key (ucd mid.tables) mid.session key }
-    → record new { session = with_painting_owed new.session } ≡ record old { session = after_replay (ucd old.tables) old.session b }
-replay_is {D} ucd old mid new b key completes is pressed =
-    let d = ucd old.tables in
+-- a press, by the key that counts
+pub again_is : {D : Type 0} (ucd : D → Data) (old new : SessionState D) (key counts : Option Key) → counts ≡ counted_key old.session key
+    → new ≡ record old { session = after_replayed_key (ucd old.tables) old.session counts }
+    → record new { session = with_painting_owed new.session } ≡ record old { session = after_replayed_press (ucd old.tables) old.session key }
+again_is {D} ucd old new key counts is pressed =
     ap (λ (x : SessionState D). record x { session = with_painting_owed x.session })
-    (pressed
-    ∙ ap (λ (x : SessionState D). record x { session = after_replayed_key (ucd x.tables) x.session key }) is
-    ∙ ap (λ (k : Option Key). record old { session = after_replayed_key d (after_spending old.session b) k }) completes)
+    (pressed ∙ ap (λ (k : Option Key). record old { session = after_replayed_key (ucd old.tables) old.session k }) is)
 
-pub unmoved_is : {D : Type 0} (ucd : D → Data) (old mid new : SessionState D) (b : ℕ) (key : Option Key) → key ≡ key_of_byte old.session b
-    → mid ≡ record old { session = after_spending old.session b }
-    → new ≡ record mid { session = unmoved_after_key (ucd mid.tables) mid.session key }
-    → record new { session = with_painting_owed new.session } ≡ record old { session = unmoved_after_replay (ucd old.tables) old.session b }
-unmoved_is {D} ucd old mid new b key completes is pressed =
-    let d = ucd old.tables in
+pub unmoved_is : {D : Type 0} (ucd : D → Data) (old new : SessionState D) (key counts : Option Key) → counts ≡ counted_key old.session key
+    → new ≡ record old { session = unmoved_after_key (ucd old.tables) old.session counts }
+    → record new { session = with_painting_owed new.session } ≡ record old { session = unmoved_after_press (ucd old.tables) old.session key }
+unmoved_is {D} ucd old new key counts is pressed =
     ap (λ (x : SessionState D). record x { session = with_painting_owed x.session })
-    (pressed
-    ∙ ap (λ (x : SessionState D). record x { session = unmoved_after_key (ucd x.tables) x.session key }) is
-    ∙ ap (λ (k : Option Key). record old { session = unmoved_after_key d (after_spending old.session b) k }) completes)
+    (pressed ∙ ap (λ (k : Option Key). record old { session = unmoved_after_key (ucd old.tables) old.session k }) is)

@@ -6,11 +6,12 @@ use Rattle.bx_bytes.specs.declared.fate.Fate.{Fate}
 use Rattle.bx_bytes.specs.declared.fate.Fate.TheVariants.{Waits, Ends, Breaks}
 use Rattle.bx_keys.specs.declared.key.Key.{Key}
 use Rattle.bx_keys.specs.Keys.{key_after, rest_after}
-use Rattle.bx_keys.specs.Waiting.{fate, head_of, StandsFor}
+use Rattle.bx_keys.specs.Waiting.{fate, head_of, keys_from, StandsFor}
 use Rattle.bx_keys.proofs.Heads.{head_waits}
 use Rattle.bx_keys.proofs.Standing.{stands_for_itself, waiting_key, waiting_rest, ending_key, ending_rest, breaking_key, breaking_rest}
 use Rattle.bx_keys.proofs.Taking.{HasTaken, none_taken, one_more_taken}
-use Rattle.bx_session.specs.Laws.{keys_from, HasKeysOfInput}
+use Rattle.bx_session.specs.Laws.{HasKeysOfInput}
+use Rattle.bx_session.proofs.Typing.{keys_are}
 
 -- with one more byte the kept part gives the same key, and still represents the unfinished input
 record Agrees (v rest : List ℕ) (b : ℕ) : Type 0 where
@@ -57,4 +58,4 @@ takes_all before taken keys v (b ∷ bs) t =
 pub keys_of_input : HasKeysOfInput
 keys_of_input bs =
     let all = takes_all [] [] [] [] bs (none_taken []) in
-    all.takes.are_keys [] (record { waits = refl; is_head = refl })
+    keys_are [] bs ∙ all.takes.are_keys [] (record { waits = refl; is_head = refl })

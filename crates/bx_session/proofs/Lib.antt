@@ -12,6 +12,7 @@ pub mod Pictures
 pub mod Replayed
 pub mod Shown
 pub mod Turns
+pub mod Typing
 pub mod Steps
 pub mod Logged
 pub mod Moved

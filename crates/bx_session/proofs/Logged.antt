@@ -4,16 +4,18 @@ use Rattle.std.proofs.Common.{refl, sym, ap, subst, ◌∙◌, append_assoc}
 use Rattle.std.proofs.lemmas.List.{append-nil, length-append, map-append}
 use Rattle.bx_ucd.specs.Data.{Data}
 use Rattle.bx_session.specs.declared.action.Action.{Action}
-use Rattle.bx_session.specs.declared.action.Action.TheVariants.{Read, ReadFailed, Append, Write, Flush}
+use Rattle.bx_session.specs.declared.action.Action.TheVariants.{Read, ReadFailed, Append}
 use Rattle.bx_session.specs.declared.end.End.{End}
 use Rattle.bx_session.specs.declared.end.End.TheVariants.{Quit, InputEnded}
 use Rattle.bx_session.specs.declared.end.RunFault.{RunFault}
 use Rattle.bx_session.specs.declared.end.RunFault.TheVariants.{ReadFault, WriteFault, ReadLimit}
 use Rattle.bx_session.specs.Session.{Session, StoreState}
-use Rattle.bx_session.specs.Running.{ByteAnswer, FedUntilEnd, Sent, Turn, bytes_of, read_in, read_size}
-use Rattle.bx_session.specs.Log.{Step, Calls, AreTaken, HasLogged, IsLog, FailsLast, IsFailedSending, LoggedTurn}
-use Rattle.bx_session.specs.Log.{bytes_by, in_parts, obeyed_in, read_by, kept_by, written_by, part_steps, sending, turn_steps, run_steps}
+use Rattle.bx_session.specs.Inputs.{rest_from}
+use Rattle.bx_session.specs.Running.{PressAnswer, TypedUntilEnd, Sent, read_in, read_size, typed_in}
+use Rattle.bx_session.specs.Log.{Step, Calls, AreTaken, ArePartsFrom, HasLogged, IsLog, FailsLast, IsFailedSending, LoggedTurn, Part}
+use Rattle.bx_session.specs.Log.{bytes_by, obeyed_in, read_by, kept_by, written_by, part_steps, parts_of, pressed_in_parts, sending, run_steps, typed_in_parts}
 use Rattle.bx_session.proofs.Steps.{bytes_more, obeyed_more, parts_read, parts_keep, parts_write, parts_obey, run_more, taken_more, unwritten}
+use Rattle.bx_session.proofs.Steps.{parts_from_both, parts_of_both, typed_parts_both}
 use Rattle.bx_session.proofs.Turns.{started, stored_on, turned, read_on, run_drops}
 
 -- ---- a sending
@@ -48,7 +50,7 @@ failed_alone written steps (inr is) = record {
 }
 
 -- the steps of a turn that sends by these steps
-abbrev turn_by : List ℕ → List (List ByteAnswer) → List Step → List Step
+abbrev turn_by : List ℕ → List Part → List Step → List Step
 turn_by bytes parts sends = Calls (Read bytes) ∷ (part_steps parts ++ sends)
 
 whole_turn : (log : List Step) (first : List ℕ) (turns : List LoggedTurn) (logged : LoggedTurn) (bytes : List ℕ) (sends : List Step)
@@ -75,13 +77,13 @@ failed_turn log first turns logged bytes sends order are failed =
     )
 
 -- what the steps of a turn read, hand to the journal, obey and write
-record IsTurnAlone (bytes written : List ℕ) (parts : List (List ByteAnswer)) (sends : List Step) : Type 0 where
+record IsTurnAlone (bytes written : List ℕ) (parts : List Part) (sends : List Step) : Type 0 where
   reads : bytes_by read_by (turn_by bytes parts sends) ≡ bytes
-  keeps : bytes_by kept_by (turn_by bytes parts sends) ≡ bytes_of (in_parts parts)
-  obeys : obeyed_in (turn_by bytes parts sends) ≡ in_parts parts
+  keeps : bytes_by kept_by (turn_by bytes parts sends) ≡ typed_in_parts parts
+  obeys : obeyed_in (turn_by bytes parts sends) ≡ pressed_in_parts parts
   writes : bytes_by written_by (turn_by bytes parts sends) ≡ written
 
-turn_alone : (bytes written : List ℕ) (parts : List (List ByteAnswer)) (sends : List Step) → IsSentAlone written sends
+turn_alone : (bytes written : List ℕ) (parts : List Part) (sends : List Step) → IsSentAlone written sends
     → IsTurnAlone bytes written parts sends
 turn_alone bytes written parts sends alone = record {
   reads = ap (λ xs. bytes ++ xs)
@@ -98,28 +100,39 @@ turn_alone bytes written parts sends alone = record {
   writes = bytes_more written_by (part_steps parts) sends ∙ ap (λ xs. xs ++ bytes_by written_by sends) (parts_write parts) ∙ alone.writes;
 }
 
-module _ {V : Type 0} (did : V → Action → V → Type 0) (obeyed : V → Session → ByteAnswer → V → Session → Type 0) (stored : V → StoreState) where
-  pub as_write_fault : (d : Data) (limit : ℕ) (result : Result End RunFault) (old new : Session) (device device' : V) → result ≡ Err WriteFault
-      → HasLogged did obeyed stored d limit (Err WriteFault) old new device device' → HasLogged did obeyed stored d limit result old new device device'
-  as_write_fault d limit result old new device device' is logged =
-      subst (λ (r : Result End RunFault). HasLogged did obeyed stored d limit r old new device device') (sym is) logged
+-- the bytes of the parts of turns are those typed in the turns
+typed_by_turns : (turns : List LoggedTurn) → typed_in_parts (parts_of turns) ≡ typed_in (map (λ (l : LoggedTurn). l.turn) turns)
+typed_by_turns [] = refl
+typed_by_turns (first ∷ turns) =
+    typed_parts_both first.parts (parts_of turns)
+    ∙ ap (λ xs. xs ++ typed_in_parts (parts_of turns)) first.typed
+    ∙ ap (λ xs. first.turn.typed ++ xs) (typed_by_turns turns)
+
+module _ {V : Type 0} (did : V → Action → V → Type 0) (obeyed : V → Session → PressAnswer → V → Session → Type 0) (stored : V → StoreState) where
+  pub as_write_fault : (d : Data) (limit : ℕ) (result : Result End RunFault) (rest rest' : List ℕ) (old new : Session) (device device' : V) → result ≡ Err WriteFault
+      → HasLogged did obeyed stored d limit (Err WriteFault) rest rest' old new device device'
+      → HasLogged did obeyed stored d limit result rest rest' old new device device'
+  as_write_fault d limit result rest rest' old new device device' is logged =
+      subst (λ (r : Result End RunFault). HasLogged did obeyed stored d limit r rest rest' old new device device') (sym is) logged
 
   -- ---- the first sending
 
-  module _ (d : Data) (limit : ℕ) (s s1 : Session) (device device1 : V) (written : List ℕ) (steps : List Step) (sent : Sent s s1 None None written)
+  module _ (d : Data) (limit : ℕ) (rest : List ℕ) (s s1 : Session) (device device1 : V) (written : List ℕ) (steps : List Step) (sent : Sent s s1 None None written)
       (taken : AreTaken did obeyed stored d device s steps device1 s1) (same : stored device1 ≡ stored device) where
-    pub first_sent : steps ≡ sending written → HasLogged did obeyed stored d limit (Ok Quit) s s1 device device1
+    pub first_sent : steps ≡ sending written → HasLogged did obeyed stored d limit (Ok Quit) rest rest s s1 device device1
     unfolding started
     first_sent is = record {
+      typed = [];
       answered = [];
       dropped = [];
       written = written;
       all = s;
-      run = started d s s1 (stored device) (stored device1) None None None written same sent;
+      run = started d rest s s1 (stored device) (stored device1) None None None written same sent;
       log = steps;
       taken = taken;
       turns = [];
       in_turns = refl;
+      in_parts = tt;
       order = is;
       reads = (whole_alone written steps is).reads;
       keeps = (whole_alone written steps is).keeps;
@@ -131,18 +144,20 @@ module _ {V : Type 0} (did : V → Action → V → Type 0) (obeyed : V → Sess
     unfolding first_sent
     no_turns is = refl
 
-    pub first_failed : IsFailedSending written steps → HasLogged did obeyed stored d limit (Err WriteFault) s s1 device device1
+    pub first_failed : IsFailedSending written steps → HasLogged did obeyed stored d limit (Err WriteFault) rest rest s s1 device device1
     unfolding started
     first_failed failed = record {
+      typed = [];
       answered = [];
       dropped = [];
       written = written;
       all = s;
-      run = started d s s1 (stored device) (stored device1) None None None written same sent;
+      run = started d rest s s1 (stored device) (stored device1) None None None written same sent;
       log = steps;
       taken = taken;
       turns = [];
       in_turns = refl;
+      in_parts = tt;
       order = ([], written, steps, refl, refl, failed);
       reads = (failed_alone written steps failed).reads;
       keeps = (failed_alone written steps failed).keeps;
@@ -153,8 +168,8 @@ module _ {V : Type 0} (did : V → Action → V → Type 0) (obeyed : V → Sess
   -- ---- one turn more
 
   -- what happened in a turn, between its read and its end; the tables stay the same
-  pub record InTurn {D : Type 0} (ucd : D → Data) (tables tables1 : D) (s s2 s3 : Session) (device1 device2 device3 : V) (answered : List ByteAnswer)
-      (dropped written bytes : List ℕ) (parts : List (List ByteAnswer)) (sends : List Step) : Type 0 where
+  pub record InTurn {D : Type 0} (ucd : D → Data) (tables tables1 : D) (rest1 rest2 : List ℕ) (s s2 s3 : Session) (device1 device2 device3 : V)
+      (typed : List ℕ) (answered : List PressAnswer) (dropped written bytes : List ℕ) (parts : List Part) (sends : List Step) : Type 0 where
     pub stay : tables1 ≡ tables
     pub empty : s.pending ≡ []
     pub running : s.editor.ended ≡ false
@@ -163,19 +178,27 @@ module _ {V : Type 0} (did : V → Action → V → Type 0) (obeyed : V → Sess
     pub mid : V
     pub reads : did device1 (Read bytes) mid
     pub reads_stored : stored mid ≡ stored device1
-    pub fed : FedUntilEnd (ucd tables1) s (stored mid) bytes s2 (stored device2) answered dropped
+    pub fed : TypedUntilEnd (ucd tables1) rest1 s (stored mid) bytes s2 (stored device2) typed answered dropped
+    pub waits : rest2 ≡ rest_from rest1 typed
     pub kept : AreTaken did obeyed stored (ucd tables1) mid s (part_steps parts) device2 s2
-    pub joined : in_parts parts ≡ answered
+    pub in_parts : ArePartsFrom rest1 parts
+    pub types : typed_in_parts parts ≡ typed
+    pub presses : pressed_in_parts parts ≡ answered
     pub sent : Sent s2 s3 None None written
     pub sends_taken : (d : Data) → AreTaken did obeyed stored d device2 s2 sends device3 s3
     pub sends_stored : stored device3 ≡ stored device2
 
-  module _ {D : Type 0} (ucd : D → Data) (tables tables1 : D) (limit : ℕ) (old s s2 s3 : Session) (device device1 device2 device3 : V)
-      (answered : List ByteAnswer) (dropped written bytes : List ℕ) (parts : List (List ByteAnswer)) (sends : List Step)
-      (before : HasLogged did obeyed stored (ucd tables) limit (Ok Quit) old s device device1)
-      (turn : InTurn ucd tables tables1 s s2 s3 device1 device2 device3 answered dropped written bytes parts sends) where
+  module _ {D : Type 0} (ucd : D → Data) (tables tables1 : D) (limit : ℕ) (rest rest1 rest2 : List ℕ) (old s s2 s3 : Session)
+      (device device1 device2 device3 : V) (typed : List ℕ) (answered : List PressAnswer) (dropped written bytes : List ℕ) (parts : List Part) (sends : List Step)
+      (before : HasLogged did obeyed stored (ucd tables) limit (Ok Quit) rest rest1 old s device device1)
+      (turn : InTurn ucd tables tables1 rest1 rest2 s s2 s3 device1 device2 device3 typed answered dropped written bytes parts sends) where
     abbrev this : LoggedTurn
-    this = record { turn = record { fed = answered; dropped = dropped; written = written }; parts = parts; joined = turn.joined }
+    this = record {
+      turn = record { typed = typed; pressed = answered; dropped = dropped; written = written };
+      parts = parts;
+      typed = turn.types;
+      pressed = turn.presses;
+    }
 
     -- the steps of the turn
     turn_taken : AreTaken did obeyed stored (ucd tables) device1 s (turn_by bytes parts sends) device3 s3
@@ -189,50 +212,62 @@ module _ {V : Type 0} (did : V → Action → V → Type 0) (obeyed : V → Sess
           taken_more did obeyed stored d turn.mid device2 device3 s s2 s3 (part_steps parts) sends kept (turn.sends_taken d),
         )
 
-    turn_fed : FedUntilEnd (ucd tables1) s (stored device1) bytes s2 (stored device3) answered dropped
+    turn_fed : TypedUntilEnd (ucd tables1) rest1 s (stored device1) bytes s2 (stored device3) typed answered dropped
     turn_fed =
-        subst (λ (x : StoreState). FedUntilEnd (ucd tables1) s x bytes s2 (stored device3) answered dropped) turn.reads_stored
-        (subst (λ (x : StoreState). FedUntilEnd (ucd tables1) s (stored turn.mid) bytes s2 x answered dropped) (sym turn.sends_stored) turn.fed)
+        subst (λ (x : StoreState). TypedUntilEnd (ucd tables1) rest1 s x bytes s2 (stored device3) typed answered dropped) turn.reads_stored
+        (subst (λ (x : StoreState). TypedUntilEnd (ucd tables1) rest1 s (stored turn.mid) bytes s2 x typed answered dropped) (sym turn.sends_stored) turn.fed)
+
+    -- its parts, behind those before
+    turn_parts : ArePartsFrom rest (parts_of (before.turns ++ this ∷ []))
+    turn_parts =
+        let all : parts_of (before.turns ++ this ∷ []) ≡ parts_of before.turns ++ parts =
+        parts_of_both before.turns (this ∷ []) ∙ ap (λ ps. parts_of before.turns ++ ps) (append-nil parts) in
+        let so_far : typed_in_parts (parts_of before.turns) ≡ before.typed =
+        typed_by_turns before.turns ∙ ap typed_in before.in_turns ∙ before.run.in_turns.types in
+        let here : rest1 ≡ rest_from rest (typed_in_parts (parts_of before.turns)) = before.run.waits ∙ ap (rest_from rest) (sym so_far) in
+        subst (ArePartsFrom rest) (sym all)
+        (parts_from_both rest (parts_of before.turns) parts before.in_parts (subst (λ (xs : List ℕ). ArePartsFrom xs parts) here turn.in_parts))
 
     -- the turn, where its sending went so and left a log of this answer
     turn_more : (result : Result End RunFault) → IsSentAlone written sends
         → IsLog limit result before.run.in_turns.first (before.turns ++ this ∷ []) (before.log ++ turn_by bytes parts sends)
-        → HasLogged did obeyed stored (ucd tables) limit result old s3 device device3
+        → HasLogged did obeyed stored (ucd tables) limit result rest rest2 old s3 device device3
     unfolding turned
     turn_more result alone order =
-        let drops = run_drops (ucd tables) old s (stored device) (stored device1) None None None None before.answered before.dropped before.written before.all
-        before.run in
-        let on = read_on s s2 before.answered answered before.dropped dropped bytes drops turn.running turn_fed.all in
+        let drops = run_drops (ucd tables) rest rest1 old s (stored device) (stored device1) None None None None before.typed before.answered before.dropped
+        before.written before.all before.run in
+        let on = read_on s before.typed typed before.dropped dropped bytes drops turn.running turn_fed.all in
         let own = turn_alone bytes written parts sends alone in record {
+          typed = before.typed ++ typed;
           answered = before.answered ++ answered;
           dropped = dropped;
           written = before.written ++ written;
           all = record s2 { pending = before.all.pending ++ s2.pending };
-          run = turned ucd tables tables1 old s s2 s3 (stored device) (stored device1) (stored device3) None None None None None None before.answered answered
-              before.dropped dropped before.written written bytes before.all before.run turn.stay turn.empty turn.running turn.some turn.most tt turn_fed
-              turn.sent;
+          run = turned ucd tables tables1 rest rest1 rest2 old s s2 s3 (stored device) (stored device1) (stored device3) None None None None None None
+              before.typed typed before.answered answered before.dropped dropped before.written written bytes before.all before.run turn.stay turn.empty
+              turn.running turn.some turn.most tt turn_fed turn.waits turn.sent;
           log = before.log ++ turn_by bytes parts sends;
           taken = taken_more did obeyed stored (ucd tables) device device1 device3 old s s3 before.log (turn_by bytes parts sends) before.taken turn_taken;
           turns = before.turns ++ this ∷ [];
           in_turns = map-append (λ (l : LoggedTurn). l.turn) before.turns (this ∷ []) ∙ ap (λ xs. xs ++ this.turn ∷ []) before.in_turns;
+          in_parts = turn_parts;
           order = order;
           reads = bytes_more read_by before.log (turn_by bytes parts sends)
               ∙ ap (λ xs. bytes_by read_by before.log ++ xs) own.reads
               ∙ ap (λ xs. xs ++ bytes) before.reads
               ∙ on;
           keeps = bytes_more kept_by before.log (turn_by bytes parts sends)
-              ∙ ap (λ xs. bytes_by kept_by before.log ++ xs) (own.keeps ∙ ap bytes_of turn.joined)
-              ∙ ap (λ xs. xs ++ bytes_of answered) before.keeps
-              ∙ sym (map-append (λ (a : ByteAnswer). a.0) before.answered answered);
+              ∙ ap (λ xs. bytes_by kept_by before.log ++ xs) (own.keeps ∙ turn.types)
+              ∙ ap (λ xs. xs ++ typed) before.keeps;
           obeys = obeyed_more before.log (turn_by bytes parts sends)
-              ∙ ap (λ xs. obeyed_in before.log ++ xs) (own.obeys ∙ turn.joined)
+              ∙ ap (λ xs. obeyed_in before.log ++ xs) (own.obeys ∙ turn.presses)
               ∙ ap (λ xs. xs ++ answered) before.obeys;
           writes = bytes_more written_by before.log (turn_by bytes parts sends)
               ∙ ap (λ xs. bytes_by written_by before.log ++ xs) own.writes
               ∙ ap (λ xs. xs ++ written) before.writes;
         }
 
-    pub turn_sent : sends ≡ sending written → (after : HasLogged did obeyed stored (ucd tables) limit (Ok Quit) old s3 device device3)
+    pub turn_sent : sends ≡ sending written → (after : HasLogged did obeyed stored (ucd tables) limit (Ok Quit) rest rest2 old s3 device device3)
         × (length after.turns ≡ length before.turns + 1)
     unfolding turn_more
     turn_sent is = (
@@ -241,31 +276,34 @@ module _ {V : Type 0} (did : V → Action → V → Type 0) (obeyed : V → Sess
       length-append before.turns (this ∷ []),
     )
 
-    pub turn_failed : IsFailedSending written sends → HasLogged did obeyed stored (ucd tables) limit (Err WriteFault) old s3 device device3
+    pub turn_failed : IsFailedSending written sends → HasLogged did obeyed stored (ucd tables) limit (Err WriteFault) rest rest2 old s3 device device3
     turn_failed failed =
         turn_more (Err WriteFault) (failed_alone written sends failed)
         (failed_turn before.log before.run.in_turns.first before.turns this bytes sends before.order turn.fed.all failed)
 
   -- ---- the end
 
-  module _ (d : Data) (limit : ℕ) (old s : Session) (device device1 : V) (before : HasLogged did obeyed stored d limit (Ok Quit) old s device device1) where
+  module _ (d : Data) (limit : ℕ) (rest rest1 : List ℕ) (old s : Session) (device device1 : V)
+      (before : HasLogged did obeyed stored d limit (Ok Quit) rest rest1 old s device device1) where
     -- calls that read, append and write nothing
     then_nothing : (result : Result End RunFault) (device2 : V) (steps : List Step) → AreTaken did obeyed stored d device1 s steps device2 s
         → stored device2 ≡ stored device1 → IsLog limit result before.run.in_turns.first before.turns (before.log ++ steps)
         → bytes_by read_by steps ≡ [] → bytes_by kept_by steps ≡ [] → obeyed_in steps ≡ [] → bytes_by written_by steps ≡ []
-        → HasLogged did obeyed stored d limit result old s device device2
+        → HasLogged did obeyed stored d limit result rest rest1 old s device device2
     unfolding stored_on
     then_nothing result device2 steps taken same order reads keeps obeys writes = record {
+      typed = before.typed;
       answered = before.answered;
       dropped = before.dropped;
       written = before.written;
       all = before.all;
-      run = stored_on d old s (stored device) (stored device1) (stored device2) None None None None before.answered before.dropped before.written before.all
-          same before.run;
+      run = stored_on d rest rest1 old s (stored device) (stored device1) (stored device2) None None None None before.typed before.answered before.dropped
+          before.written before.all same before.run;
       log = before.log ++ steps;
       taken = taken_more did obeyed stored d device device1 device2 old s s before.log steps before.taken taken;
       turns = before.turns;
       in_turns = before.in_turns;
+      in_parts = before.in_parts;
       order = order;
       reads = bytes_more read_by before.log steps
           ∙ ap (λ xs. bytes_by read_by before.log ++ xs) reads
@@ -283,7 +321,7 @@ module _ {V : Type 0} (did : V → Action → V → Type 0) (obeyed : V → Sess
     }
 
     pub input_ended : (changed : Bool) (mid device2 : V) (bytes : List ℕ) → bytes ≡ [] → did device1 (Read bytes) mid → stored mid ≡ stored device1
-        → did mid (Append bytes) device2 → stored device2 ≡ stored mid → HasLogged did obeyed stored d limit (Ok (InputEnded changed)) old s device device2
+        → did mid (Append bytes) device2 → stored device2 ≡ stored mid → HasLogged did obeyed stored d limit (Ok (InputEnded changed)) rest rest1 old s device device2
     input_ended changed mid device2 bytes none reads same appends same' =
         then_nothing (Ok (InputEnded changed)) device2 (Calls (Read []) ∷ Calls (Append []) ∷ []) (
           mid,
@@ -293,14 +331,15 @@ module _ {V : Type 0} (did : V → Action → V → Type 0) (obeyed : V → Sess
         ) (same' ∙ same) (ap (λ xs. xs ++ Calls (Read []) ∷ Calls (Append []) ∷ []) before.order) refl refl refl refl
 
     pub read_failed : (device2 : V) → did device1 ReadFailed device2 → stored device2 ≡ stored device1
-        → HasLogged did obeyed stored d limit (Err ReadFault) old s device device2
+        → HasLogged did obeyed stored d limit (Err ReadFault) rest rest1 old s device device2
     read_failed device2 failed same =
         then_nothing (Err ReadFault) device2 (Calls ReadFailed ∷ [])
         (device2, s, unwritten did obeyed stored d device1 device2 s ReadFailed refl failed same, (refl, refl)) same
         (ap (λ xs. xs ++ Calls ReadFailed ∷ []) before.order) refl refl refl refl
 
-    pub limit_reached : length before.turns ≡ limit → HasLogged did obeyed stored d limit (Err ReadLimit) old s device device1
+    pub limit_reached : length before.turns ≡ limit → HasLogged did obeyed stored d limit (Err ReadLimit) rest rest1 old s device device1
     limit_reached count = record {
+      typed = before.typed;
       answered = before.answered;
       dropped = before.dropped;
       written = before.written;
@@ -310,6 +349,7 @@ module _ {V : Type 0} (did : V → Action → V → Type 0) (obeyed : V → Sess
       taken = before.taken;
       turns = before.turns;
       in_turns = before.in_turns;
+      in_parts = before.in_parts;
       order = (before.order, count);
       reads = before.reads;
       keeps = before.keeps;

@@ -14,7 +14,7 @@ use Rattle.bx_session.specs.declared.end.RunFault.{RunFault}
 use Rattle.bx_session.specs.declared.end.RunFault.TheVariants.{ReadFault, WriteFault, ReadLimit}
 use Rattle.bx_session.specs.declared.wired.Wired.{Wired}
 use Rattle.bx_session.specs.Session.{Session, StoreState, store_state}
-use Rattle.bx_session.specs.Running.{ByteAnswer, EndsWith, HasRead, Turn, TakesTurns, read_in}
+use Rattle.bx_session.specs.Running.{PressAnswer, EndsWith, HasRead, Turn, TakesTurns, read_in}
 use Rattle.bx_session.specs.Journal.{HasKept, RunsRecorded}
 use Rattle.bx_session.specs.Log.{Step, Calls, Obeys, AreTaken, HasLogged, LoggedTurn}
 use Rattle.bx_session.specs.Log.{bytes_by, read_by, kept_by, written_by, part_steps, sending, turn_steps, turns_steps, run_steps}
@@ -51,7 +51,7 @@ module _ {R J W S : Type 0} (remaining : R → Option (List ℕ)) (contents : J 
   abbrev did : Wired R J W S → Action → Wired R J W S → Type 0
   did = DidWired remaining contents failures out
 
-  abbrev obeyed : Wired R J W S → Session → ByteAnswer → Wired R J W S → Session → Type 0
+  abbrev obeyed : Wired R J W S → Session → PressAnswer → Wired R J W S → Session → Type 0
   obeyed old before answer new after = ObeyedWired old new
 
   abbrev stored : Wired R J W S → StoreState
@@ -80,7 +80,7 @@ module _ {R J W S : Type 0} (remaining : R → Option (List ℕ)) (contents : J 
     writes = Appends-trans (out a.writer.now) (out b.writer.now) (out c.writer.now) written written' first.writes next.writes;
   }
 
-  -- the obeying of a byte moves nothing
+  -- the obeying of a press moves nothing
   obeyed_moved : (a b : Wired R J W S) → ObeyedWired a b → HasMoved remaining contents failures out a b [] [] []
   obeyed_moved a b is = record {
     same = is.same;
@@ -106,24 +106,27 @@ module _ {R J W S : Type 0} (remaining : R → Option (List ℕ)) (contents : J 
       subst (λ (r : R). IsAtEnd (remaining r)) (sym same) (taken.2.does.end refl)
   at_end d a b s s' (step ∷ front) taken = at_end d taken.0 b taken.1 s' front taken.3
 
-  module _ (d : Data) (limit : ℕ) (result : Result End RunFault) (old new : Session) (device device' : Wired R J W S)
-      (logged : HasLogged did obeyed stored d limit result old new device device') where
+  module _ (d : Data) (limit : ℕ) (result : Result End RunFault) (rest rest' : List ℕ) (old new : Session) (device device' : Wired R J W S)
+      (logged : HasLogged did obeyed stored d limit result rest rest' old new device device') where
     moved : HasMoved remaining contents failures out device device' (bytes_by read_by logged.log) (bytes_by kept_by logged.log) (bytes_by written_by logged.log)
     moved = all_moved d device device' old new logged.log logged.taken
 
     pub same_parts : AreSameParts device device'
     same_parts = moved.same
 
-    pub recorded : RunsRecorded contents failures d old new (stored device) (stored device') (remaining device.reader.now) (remaining device'.reader.now)
+    pub recorded : RunsRecorded contents failures d rest rest' old new (stored device) (stored device') (remaining device.reader.now) (remaining device'.reader.now)
         (out device.writer.now) (out device'.writer.now) device.recorder.now device'.recorder.now
     recorded =
         let run = logged.run in (
+          logged.typed,
           logged.answered,
           logged.dropped,
           logged.written,
           logged.all,
           record {
             feeds = run.feeds;
+            presses = run.presses;
+            waits = run.waits;
             reads = subst (Consumes (remaining device.reader.now) (remaining device'.reader.now)) logged.reads moved.reads;
             drops = run.drops;
             few = run.few;
@@ -135,24 +138,24 @@ module _ {R J W S : Type 0} (remaining : R → Option (List ℕ)) (contents : J 
           subst (HasKept contents failures device.recorder.now device'.recorder.now) logged.keeps moved.keeps,
         )
 
-  pub ended_with : (d : Data) (limit : ℕ) (result : Result End RunFault) (old new : Session) (device device' : Wired R J W S)
-      → HasLogged did obeyed stored d limit result old new device device' → EndsWith result new None → EndsWith result new (remaining device'.reader.now)
-  ended_with d limit (Ok Quit) old new device device' logged ends = ends
-  ended_with d limit (Ok (InputEnded changed)) old new device device' logged ends = (
+  pub ended_with : (d : Data) (limit : ℕ) (result : Result End RunFault) (rest rest' : List ℕ) (old new : Session) (device device' : Wired R J W S)
+      → HasLogged did obeyed stored d limit result rest rest' old new device device' → EndsWith result new None → EndsWith result new (remaining device'.reader.now)
+  ended_with d limit (Ok Quit) rest rest' old new device device' logged ends = ends
+  ended_with d limit (Ok (InputEnded changed)) rest rest' old new device device' logged ends = (
     ends.0,
     ends.1,
     ends.2,
     at_end d device device' old new (run_steps logged.run.in_turns.first logged.turns)
         (subst (λ xs. AreTaken did obeyed stored d device old xs device' new) logged.order logged.taken),
   )
-  ended_with d limit (Err ReadFault) old new device device' logged ends = ends
-  ended_with d limit (Err ReadLimit) old new device device' logged ends = ends
-  ended_with d limit (Err WriteFault) old new device device' logged ends = ends
+  ended_with d limit (Err ReadFault) rest rest' old new device device' logged ends = ends
+  ended_with d limit (Err ReadLimit) rest rest' old new device device' logged ends = ends
+  ended_with d limit (Err WriteFault) rest rest' old new device device' logged ends = ends
 
-  pub has_read : (d : Data) (limit : ℕ) (result : Result End RunFault) (old new : Session) (device device' : Wired R J W S)
-      → HasLogged did obeyed stored d limit result old new device device' → IsErrOf result ReadLimit
+  pub has_read : (d : Data) (limit : ℕ) (result : Result End RunFault) (rest rest' : List ℕ) (old new : Session) (device device' : Wired R J W S)
+      → HasLogged did obeyed stored d limit result rest rest' old new device device' → IsErrOf result ReadLimit
       → HasRead limit (remaining device.reader.now) (remaining device'.reader.now)
-  has_read d limit (Err ReadLimit) old new device device' logged is =
+  has_read d limit (Err ReadLimit) rest rest' old new device device' logged is =
       let turns = logged.run.in_turns in
       let takes = subst (λ (ts : List Turn). TakesTurns d turns.begun (stored device) ts new (stored device')) (sym logged.in_turns) turns.takes in
       let some = turns_read d turns.begun new (stored device) (stored device') logged.turns takes in (
@@ -160,6 +163,6 @@ module _ {R J W S : Type 0} (remaining : R → Option (List ℕ)) (contents : J 
         omega (arith, some, logged.order.1, ap (λ xs. length (bytes_by read_by xs)) logged.order.0),
         (all_moved d device device' old new logged.log logged.taken).reads,
       )
-  has_read d limit (Ok e) old new device device' logged is = absurd (cc is)
-  has_read d limit (Err ReadFault) old new device device' logged is = absurd (cc is)
-  has_read d limit (Err WriteFault) old new device device' logged is = absurd (cc is)
+  has_read d limit (Ok e) rest rest' old new device device' logged is = absurd (cc is)
+  has_read d limit (Err ReadFault) rest rest' old new device device' logged is = absurd (cc is)
+  has_read d limit (Err WriteFault) rest rest' old new device device' logged is = absurd (cc is)

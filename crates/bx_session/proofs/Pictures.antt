@@ -58,7 +58,6 @@ fits_next (Some p) e next h high wide = (h.0 ∙ sym high, h.1 ∙ sym wide)
 abbrev pub value_of : {D : Type 0} → Inside D → Session
 value_of s = record {
   editor = s.editor.editor;
-  rest = s.decoder;
   painted = s.painted;
   known = known_if s.is_known s.painted;
   painting_owed = s.painting_owed;

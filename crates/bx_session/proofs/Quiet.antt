@@ -3,8 +3,6 @@ use Rattle.std.proofs.Common.{◌≡◌, ℕ, Bool, true, false, not, ◌&&◌, 
 use Rattle.std.specs.Prelude.{is_some}
 use Rattle.bx_keys.specs.declared.key.Key.{Key}
 use Rattle.bx_keys.specs.declared.key.Key.TheVariants.{Insert, PasteStart}
-use Rattle.bx_keys.specs.Keys.{rest_after}
-use Rattle.bx_keys.specs.Waiting.{head_of}
 use Rattle.bx_grid.specs.Picture.{PictureState}
 use Rattle.bx_store.specs.declared.store.StoreFault.{StoreFault}
 use Rattle.bx_ucd.specs.Data.{Data}
@@ -19,7 +17,8 @@ use Rattle.bx_editor.specs.Picture.{StandsOnItsCell, picture}
 use Rattle.bx_editor.proofs.Unseen.{begun-unseen, letter-unseen, start-unseen, unrefused}
 use Rattle.bx_session.specs.Painting.{ShowsState}
 use Rattle.bx_session.proofs.Tops.{column_same}
-use Rattle.bx_session.specs.Session.{Session, after_spending, key_of_byte, needs_painting, picture_of, session_after_any}
+use Rattle.bx_session.specs.Session.{Session, counted_key, needs_painting, picture_of, session_after_any}
+use Rattle.bx_session.specs.Session.{unpainted_after_press}
 
 -- what such a key leaves
 pub record IsQuiet (d : Data) (e new : Editor) : Type 0 where
@@ -127,18 +126,16 @@ any_quiet d fault s (Some key) on none =
       owed = refl;
     }
 
--- after a byte, by whether the session had ended
-quiet_at : (ended : Bool) (d : Data) (fault : Option StoreFault) (s : Session) (key : Option Key) (rest : List ℕ) → s.editor.ended ≡ ended
+-- after a press, by whether the session had ended
+quiet_at : (ended : Bool) (d : Data) (fault : Option StoreFault) (s : Session) (key : Option Key) → s.editor.ended ≡ ended
     → needs_painting s.editor (if ended then None else key) ≡ false
-    → StaysQuiet d s (session_after_any d fault (if ended then s else record s { rest = rest }) (if ended then None else key))
-quiet_at true d fault s key rest is none = stays d s s refl refl refl refl refl
-quiet_at false d fault s key rest is none =
-    let quiet = any_quiet d fault (record s { rest = rest }) key is none in
-    record { editor = quiet.editor; painted = quiet.painted; known = quiet.known; pending = quiet.pending; owed = quiet.owed }
+    → StaysQuiet d s (session_after_any d fault s (if ended then None else key))
+quiet_at true d fault s key is none = stays d s s refl refl refl refl refl
+quiet_at false d fault s key is none = any_quiet d fault s key is none
 
-pub quiet_byte : (d : Data) (fault : Option StoreFault) (s : Session) (b : ℕ) → needs_painting s.editor (key_of_byte s b) ≡ false
-    → StaysQuiet d s (session_after_any d fault (after_spending s b) (key_of_byte s b))
-quiet_byte d fault s b none = quiet_at s.editor.ended d fault s _ (head_of (rest_after s.rest b)) refl none
+pub quiet_press : (d : Data) (fault : Option StoreFault) (s : Session) (key : Option Key) → needs_painting s.editor (counted_key s key) ≡ false
+    → StaysQuiet d s (unpainted_after_press d fault s key)
+quiet_press d fault s key none = quiet_at s.editor.ended d fault s key refl none
 
 -- so the screen is taken to show the state as before
 pub quiet_shows : (d : Data) (s new : Session) → StaysQuiet d s new → ShowsState d s → ShowsState d new

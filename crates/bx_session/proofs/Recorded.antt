@@ -8,7 +8,7 @@ use Rattle.std.proofs.lemmas.List.{append-nil, append_cancel_right, length-appen
 use Rattle.bx_store.specs.Faults.{one_more}
 use Rattle.bx_session.specs.declared.journal.Backlog.{Backlog}
 use Rattle.bx_session.specs.declared.journal.Backlog.TheVariants.{Empty, Waiting, Lost}
-use Rattle.bx_session.specs.Journal.{RecorderState, AppendsNew, HasKept, HasTried, Holds, LacksRoom, is_lost, room, waiting, after_faults}
+use Rattle.bx_session.specs.Journal.{RecorderState, AppendsNew, HasKept, HasTried, Holds, is_lost, room, waiting, after_faults}
 
 -- ---- one call
 

@@ -1,10 +1,8 @@
--- Replayed bytes apply their keys in order.
-use Rattle.std.proofs.Common.{◌≡◌, ℕ, Bool, true, false, List, [], ◌∷◌, ◌++◌, Option, Some, None, refl, sym, ap, ap₂, ◌∙◌, append_assoc, if◌then◌else◌}
+-- Replayed presses apply their keys in order.
+use Rattle.std.proofs.Common.{◌≡◌, Bool, true, false, List, [], ◌∷◌, ◌++◌, Option, Some, None, refl, sym, ap, ap₂, ◌∙◌, if◌then◌else◌}
 use Rattle.std.specs.Prelude.{option_to_list, is_some, not, ◌&&◌}
 use Rattle.bx_keys.specs.declared.key.Key.{Key}
 use Rattle.bx_keys.specs.declared.key.Key.TheVariants.{Save, Quit}
-use Rattle.bx_keys.specs.Keys.{key_after, rest_after}
-use Rattle.bx_keys.specs.Waiting.{head_of}
 use Rattle.bx_ucd.specs.Data.{Data}
 use Rattle.bx_editor.specs.declared.questions.answers.Prompt.{Prompt}
 use Rattle.bx_editor.specs.declared.questions.answers.Prompt.TheVariants as prompts
@@ -18,10 +16,11 @@ use Rattle.bx_editor.specs.Putting.{paste_ended}
 use Rattle.bx_editor.specs.Replay.{after_passed_answer}
 use Rattle.bx_editor.specs.Saving.{with_answered_name, without_answer}
 use Rattle.bx_editor.specs.Scrolling.{scroll_of}
-use Rattle.bx_session.specs.Laws.{keys_from, after_replaying, ReplaysKeys}
+use Rattle.bx_session.specs.Inputs.{keys_in}
+use Rattle.bx_session.specs.Laws.{after_replaying, ReplaysKeys}
 use Rattle.bx_session.specs.Parts.{is_quit}
 use Rattle.bx_session.specs.Session.{Session, session_after_key, with_painting_owed}
-use Rattle.bx_session.specs.Replaying.{after_all_replayed, after_passed, after_replay, after_replayed, after_replayed_key, moved_by, replayed_on, scrolled_on}
+use Rattle.bx_session.specs.Replaying.{after_all_replayed, after_passed, after_replayed, after_replayed_key, after_replayed_press, moved_by, replayed_on, scrolled_on}
 use Rattle.bx_session.specs.Replaying.{session_after_replayed, session_scrolled}
 use Rattle.bx_session.proofs.KeyKinds.{is_other, not_quitting, stores}
 use Rattle.bx_session.proofs.KeySizes.{ended_goes_on, key_goes_on}
@@ -60,10 +59,6 @@ editor_if : (b : Bool) (s new other : Session) (e f : Editor) → new.editor ≡
 editor_if true s new other e f h k = h
 editor_if false s new other e f h k = k
 
-rest_if : (b : Bool) (s new other : Session) → new.rest ≡ s.rest → other.rest ≡ s.rest → (if b then new else other).rest ≡ s.rest
-rest_if true s new other h k = h
-rest_if false s new other h k = k
-
 abbrev passed_session : Data → Prompt → Session → Key → Session
 passed_session d prompt s key = record s { editor = after_passed prompt key (paste_ended d s.editor) }
 
@@ -73,22 +68,12 @@ quit_editor d prompts.Off Off s = refl
 quit_editor d prompts.Off search_state s = refl
 quit_editor d prompt search_state s = refl
 
-quit_rest : (d : Data) (prompt : Prompt) (search_state : SearchState) (s : Session) → (session_after_replayed d prompt search_state s Quit).rest ≡ s.rest
-quit_rest d prompts.Off Off s = refl
-quit_rest d prompts.Off search_state s = refl
-quit_rest d prompt search_state s = refl
-
 editor_is : (d : Data) (prompt : Prompt) (search_state : SearchState) (s : Session) (key : Key)
     → (session_after_replayed d prompt search_state s key).editor ≡ after_replayed d prompt search_state s.editor key
 editor_is d prompt search_state s Quit = quit_editor d prompt search_state s
 editor_is d prompt search_state s key =
     editor_if (stores s.editor key) s (passed_session d prompt s key) (session_after_key d None s key)
     (after_passed prompt key (paste_ended d s.editor)) (after_key d None s.editor key) refl refl
-
-rest_stays : (d : Data) (prompt : Prompt) (search_state : SearchState) (s : Session) (key : Key) → (session_after_replayed d prompt search_state s key).rest ≡ s.rest
-rest_stays d prompt search_state s Quit = quit_rest d prompt search_state s
-rest_stays d prompt search_state s key =
-    rest_if (stores s.editor key) s (passed_session d prompt s key) (session_after_key d None s key) refl refl
 
 -- ---- a replay ends no session
 
@@ -143,38 +128,33 @@ goes_on d e key h =
     (λ k other. key_goes_on d None e k (not_quitting e k other)) key
     ∙ h
 
--- ---- a byte
+-- ---- a press
 
--- the session after a byte with a given key
-pub record Applies (d : Data) (old : Session) (rest : List ℕ) (keys : List Key) (new : Session) : Type 0 where
+-- the session after a press with a given key
+pub record Applies (d : Data) (old : Session) (keys : List Key) (new : Session) : Type 0 where
   pub editor : new.editor ≡ after_all_replayed d old.editor keys
-  pub rest_is : new.rest ≡ rest
   pub goes_on : new.editor.ended ≡ false
 
 applies_any : (d : Data) (s : Session) (key : Option Key) → s.editor.ended ≡ false
-    → Applies d s s.rest (option_to_list key) (after_replayed_key d s key)
-applies_any d s None h = record { editor = refl; rest_is = refl; goes_on = h }
+    → Applies d s (option_to_list key) (after_replayed_key d s key)
+applies_any d s None h = record { editor = refl; goes_on = h }
 applies_any d s (Some key) h =
     let from : Session = session_scrolled d s in
     let over : Editor = paste_ended d from.editor in record {
       editor = ap (moved_by d (scroll_of s.editor key)) (editor_is d over.prompt over.search_state from key);
-      rest_is = rest_stays d over.prompt over.search_state from key;
       goes_on = ap (λ (e : Editor). e.ended) (editor_is d over.prompt over.search_state from key) ∙ goes_on d from.editor key h;
     }
 
-applies_at : (ended : Bool) (d : Data) (s : Session) (b : ℕ) → s.editor.ended ≡ ended → ended ≡ false
-    → Applies d s (head_of (rest_after s.rest b)) (option_to_list (key_after s.rest b))
-    (with_painting_owed (after_replayed_key d (if ended then s else record s { rest = head_of (rest_after s.rest b) }) (if ended then None else key_after s.rest b)))
-applies_at true d s b e h = absurd (cc h)
-applies_at false d s b e h =
-    let each = applies_any d (record s { rest = head_of (rest_after s.rest b) }) (key_after s.rest b) e in
-    record { editor = each.editor; rest_is = each.rest_is; goes_on = each.goes_on }
+applies_at : (ended : Bool) (d : Data) (s : Session) (key : Option Key) → s.editor.ended ≡ ended → ended ≡ false
+    → Applies d s (option_to_list key) (with_painting_owed (after_replayed_key d s (if ended then None else key)))
+applies_at true d s key e h = absurd (cc h)
+applies_at false d s key e h = let each = applies_any d s key e in record { editor = each.editor; goes_on = each.goes_on }
 
-pub applies : (d : Data) (s : Session) (b : ℕ) → s.editor.ended ≡ false
-    → Applies d s (head_of (rest_after s.rest b)) (option_to_list (key_after s.rest b)) (after_replay d s b)
-applies d s b h = applies_at s.editor.ended d s b refl h
+pub applies : (d : Data) (s : Session) (key : Option Key) → s.editor.ended ≡ false
+    → Applies d s (option_to_list key) (after_replayed_press d s key)
+applies d s key h = applies_at s.editor.ended d s key refl h
 
--- ---- all bytes
+-- ---- all presses
 
 pub keys_in_parts : (d : Data) (e : Editor) (first others : List Key)
     → after_all_replayed d e (first ++ others) ≡ after_all_replayed d (after_all_replayed d e first) others
@@ -183,31 +163,12 @@ keys_in_parts d e (key ∷ first) others = keys_in_parts d (scrolled_on d (scrol
 
 pub replays_keys : ReplaysKeys
 replays_keys d s [] h = refl
-replays_keys d s (b ∷ bs) h =
-    let each = applies d s b h in
-    let key = key_after s.rest b in
-    let others = keys_from (head_of (rest_after s.rest b)) bs in
-    replays_keys d (after_replay d s b) bs each.goes_on ∙ rw (each.rest_is, each.editor) (sym (keys_in_parts d s.editor (option_to_list key) others))
+replays_keys d s (key ∷ presses) h =
+    let each = applies d s key h in
+    replays_keys d (after_replayed_press d s key) presses each.goes_on
+    ∙ rw each.editor (sym (keys_in_parts d s.editor (option_to_list key) (keys_in presses)))
 
--- ---- the unfinished input after bytes
-
-abbrev pub rest_from : List ℕ → List ℕ → List ℕ
-rest_from rest [] = rest
-rest_from rest (b ∷ bs) = rest_from (head_of (rest_after rest b)) bs
-
-pub keys_from_both : (rest bs more : List ℕ) → keys_from rest (bs ++ more) ≡ keys_from rest bs ++ keys_from (rest_from rest bs) more
-keys_from_both rest [] more = refl
-keys_from_both rest (b ∷ bs) more =
-    let next = head_of (rest_after rest b) in
-    ap (λ ks. option_to_list (key_after rest b) ++ ks) (keys_from_both next bs more)
-    ∙ sym (append_assoc (option_to_list (key_after rest b)) (keys_from next bs) (keys_from (rest_from next bs) more))
-
-pub replayed_rest : (d : Data) (s : Session) (bs : List ℕ) → s.editor.ended ≡ false → (after_replaying d s bs).rest ≡ rest_from s.rest bs
-replayed_rest d s [] h = refl
-replayed_rest d s (b ∷ bs) h =
-    let each = applies d s b h in
-    replayed_rest d (after_replay d s b) bs each.goes_on ∙ ap (λ rest. rest_from rest bs) each.rest_is
-
-pub replayed_more : (d : Data) (s : Session) (bs : List ℕ) (b : ℕ) → after_replaying d s (bs ++ b ∷ []) ≡ after_replay d (after_replaying d s bs) b
-replayed_more d s [] b = refl
-replayed_more d s (first ∷ bs) b = replayed_more d (after_replay d s first) bs b
+pub replayed_more : (d : Data) (s : Session) (presses : List (Option Key)) (key : Option Key)
+    → after_replaying d s (presses ++ key ∷ []) ≡ after_replayed_press d (after_replaying d s presses) key
+replayed_more d s [] key = refl
+replayed_more d s (first ∷ presses) key = replayed_more d (after_replayed_press d s first) presses key

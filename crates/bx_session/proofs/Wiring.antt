@@ -9,7 +9,7 @@ use Rattle.bx_session.specs.declared.action.Action.TheVariants.{Read, ReadFailed
 use Rattle.bx_session.specs.declared.wired.Wired.{Wired}
 use Rattle.bx_session.specs.Journal.{HasKept, HasTried}
 use Rattle.bx_session.specs.Log.{read_by, kept_by}
-use Rattle.bx_session.specs.Wire.{AreSameParts, DidWired, ObeyedWired}
+use Rattle.bx_session.specs.Wire.{AreSameParts, DidWired}
 use Rattle.bx_session.proofs.Recorded.{kept_nothing}
 
 pub if_err : {A E : Type 0} (P Q : E → Type 0) (r : Result A E) → ((fault : E) → P fault → Q fault) → IfErr r P → IfErr r Q

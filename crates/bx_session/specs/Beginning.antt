@@ -7,6 +7,7 @@ use Rattle.bx_editor.specs.Settings.{SettingsState}
 use Rattle.bx_session.specs.Session.{Session, at_opening, with_painting, with_settings, clipboard_if}
 use Rattle.bx_session.specs.Replaying.{after_going, as_changed, after_journal}
 use Rattle.bx_session.specs.Painting.{QueuesPicture}
+use Rattle.bx_session.specs.Inputs.{presses_from}
 
 -- what a session starts with
 pub record Beginning : Type 0 where
@@ -47,7 +48,7 @@ at_offset d b = changed_if b.unsaved (after_going_to d (clipboard_if b.clipboard
 
 -- after the replay of the journal, not painted yet
 abbrev pub unpainted_at : Data → Beginning → Session
-unpainted_at d b = after_journal d (at_offset d b) b.journal
+unpainted_at d b = after_journal d (at_offset d b) (presses_from [] b.journal)
 
 -- painted: a run starts here
 abbrev pub begun : Data → Beginning → Session

@@ -34,7 +34,7 @@ pub record DidInMemory (old : DeviceState) (action : Action) (new : DeviceState)
   pub store : new.store ≡ old.store
   pub end : action ≡ Read [] → new.input ≡ []
 
--- the obeying of a byte changes nothing but the store
+-- the obeying of a press changes nothing but the store
 pub record ObeyedInMemory (old new : DeviceState) : Type 0 where
   pub input : new.input ≡ old.input
   pub log : new.log ≡ old.log

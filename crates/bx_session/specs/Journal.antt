@@ -8,7 +8,7 @@ use Rattle.bx_store.specs.Faults.{one_more}
 use Rattle.bx_session.specs.declared.journal.Backlog.{Backlog}
 use Rattle.bx_session.specs.declared.journal.Backlog.TheVariants.{Empty, Waiting, Lost}
 use Rattle.bx_session.specs.Session.{Session, StoreState}
-use Rattle.bx_session.specs.Running.{ByteAnswer, HasRun, bytes_of}
+use Rattle.bx_session.specs.Running.{PressAnswer, HasRun}
 
 -- the value of a `Recorder`: a journal, and the end of the input that it does not have
 pub record RecorderState (J : Type 0) : Type 0 where
@@ -86,9 +86,9 @@ pub record HasTried {J : Type 0} (contents : J → Option (List ℕ)) (failures 
   pub full : is_lost old.backlog ≡ false → is_lost new.backlog ≡ true → LacksRoom contents old new bytes
 
 -- a run whose input up to the session's end is handed to a recorder; what follows the end is dropped
-abbrev pub RunsRecorded : {J : Type 0} → (J → Option (List ℕ)) → (J → ℕ) → Data → Session → Session → StoreState → StoreState
+abbrev pub RunsRecorded : {J : Type 0} → (J → Option (List ℕ)) → (J → ℕ) → Data → List ℕ → List ℕ → Session → Session → StoreState → StoreState
     → Option (List ℕ) → Option (List ℕ) → Option (List ℕ) → Option (List ℕ) → RecorderState J → RecorderState J → Type 0
-RunsRecorded contents failures d old new store store' reader reader' writer writer' journal journal' =
-    (answered : List ByteAnswer) × (dropped : List ℕ) × (written : List ℕ) × (all : Session)
-    × HasRun d old new store store' reader reader' writer writer' answered dropped written all
-    × HasKept contents failures journal journal' (bytes_of answered)
+RunsRecorded contents failures d rest rest' old new store store' reader reader' writer writer' journal journal' =
+    (typed : List ℕ) × (answered : List PressAnswer) × (dropped : List ℕ) × (written : List ℕ) × (all : Session)
+    × HasRun d rest rest' old new store store' reader reader' writer writer' typed answered dropped written all
+    × HasKept contents failures journal journal' typed

@@ -6,6 +6,7 @@ pub mod Wire
 pub mod InMemory
 pub mod Journal
 pub mod Parts
+pub mod Inputs
 pub mod Laws
 pub mod Beginning
 pub mod Replaying

@@ -1,5 +1,4 @@
--- The effect of queued bytes on a terminal. `d` is Unicode's data, `s` a session, `e` an editor, `t` a terminal, `b` a byte of
--- input.
+-- The effect of queued bytes on a terminal. `d` is Unicode's data, `s` a session, `e` an editor, `t` a terminal.
 use Rattle.std.specs.Prelude.{◌≡◌, ◌⊎◌, ℕ, false, List, [], ◌∷◌, ◌++◌, Option, Some, None, IfSome, Ok, codes, option_map}
 use Rattle.std.specs.Borrow.{Bor}
 use Rattle.base64.specs.Engines.{standard}
@@ -11,7 +10,8 @@ use Rattle.bx_ucd.specs.Data.{Data}
 use Rattle.bx_editor.specs.Editor.{Editor}
 use Rattle.bx_editor.specs.Picture.{StandsOnItsCell}
 use Rattle.bx_editor.specs.Status.{input_column}
-use Rattle.bx_session.specs.Session.{Session, painting, picture_of, unpainted_after_byte}
+use Rattle.bx_keys.specs.declared.key.Key.{Key}
+use Rattle.bx_session.specs.Session.{Session, painting, picture_of, unpainted_after_press}
 
 -- if no painting is owed, the picture last painted is the picture of the session's state, and the screen is taken to show it
 abbrev pub ShowsState : Data → Session → Type 0
@@ -40,10 +40,10 @@ pub record Paints (d : Data) (before : List ℕ) (old : Option PictureState) (ne
 abbrev pub QueuesPicture : Data → List ℕ → Option PictureState → Session → Type 0
 QueuesPicture d before known new = (bytes : List ℕ) × Paints d before known new bytes
 
--- A byte that was not refused, and after which the picture is painted, queues its painting, with a clip or without. A Save's result
+-- A press that was not refused, and after which the picture is painted, queues its painting, with a clip or without. A Save's result
 -- changes nothing about the screen's content, so None stands in its place here.
-abbrev pub FeedPaints : Data → Session → ℕ → Session → Type 0
-FeedPaints d old b new = QueuesPicture d old.pending (unpainted_after_byte d None old b).known new
+abbrev pub PressPaints : Data → Session → Option Key → Session → Type 0
+PressPaints d old key new = QueuesPicture d old.pending (unpainted_after_press d None old key).known new
 
 -- the page of a picture
 abbrev pub page_in : PictureState → GridState
@@ -65,9 +65,9 @@ pub record AppendsPainting (d : Data) (before : List ℕ) (old : Option PictureS
   pub appends : new.pending ≡ (before ++ painting old (picture_of d new.editor)) ++ clip
   pub at_most_one : (clip ≡ []) ⊎ IsClipOf new.editor.held clip
 
--- what a byte appends that was not refused, and after which the picture is painted
-abbrev pub FeedAppends : Data → Session → ℕ → Session → Type 0
-FeedAppends d old b new = AppendsPainting d old.pending (unpainted_after_byte d None old b).known new
+-- what a press appends that was not refused, and after which the picture is painted
+abbrev pub PressAppends : Data → Session → Option Key → Session → Type 0
+PressAppends d old key new = AppendsPainting d old.pending (unpainted_after_press d None old key).known new
 
 -- a told size that was not refused queues a whole painting, since the screen's content is unknown
 abbrev pub ToldPaints : Data → Session → Session → Type 0

@@ -1,4 +1,4 @@
--- The replay of a journal, and what comes before the keys of a run. `d` is Unicode's data, `s` the session before, `b` a byte of input.
+-- The replay of a journal, and what comes before the keys of a run. `d` is Unicode's data, `s` the session before.
 use Rattle.std.specs.Prelude.{ℕ, true, List, [], ◌∷◌, is_some, Option, Some, None, if◌then◌else◌}
 use Rattle.bx_keys.specs.declared.key.Key.{Key}
 use Rattle.bx_keys.specs.declared.key.Key.TheVariants.{Quit, Save}
@@ -16,7 +16,7 @@ use Rattle.bx_editor.specs.Putting.{paste_ended}
 use Rattle.bx_editor.specs.Replay.{after_passed_answer, after_passed_quit, after_passed_save}
 use Rattle.bx_editor.specs.Replay as replay
 use Rattle.bx_editor.specs.Picture.{scrolled}
-use Rattle.bx_session.specs.Session.{Session, after_spending, key_of_byte, session_after_key, with_painting_owed}
+use Rattle.bx_session.specs.Session.{Session, counted_key, session_after_key, with_painting_owed}
 
 -- a key of a journal that stored the text, in this question: it is a name that is answered, or a save
 abbrev pub after_passed : Prompt → Key → Editor → Editor
@@ -78,7 +78,7 @@ session_scrolled d s = record s { editor = scrolled d s.editor }
 abbrev pub session_moved_by : Data → Scroll → Session → Session
 session_moved_by d scroll s = record s { editor = moved_by d scroll s.editor }
 
--- the session after the key of a journal's byte, if it completes one, before the key moves the top
+-- the session after the key of a press, if it has one, before the key moves the top
 abbrev pub unmoved_after_key : Data → Session → Option Key → Session
 unmoved_after_key d s None = s
 unmoved_after_key d s (Some key) = session_replayed_on d (session_scrolled d s) key
@@ -88,22 +88,22 @@ abbrev pub moved_behind : Data → Session → Option Key → Session → Sessio
 moved_behind d s None new = new
 moved_behind d s (Some key) new = session_moved_by d (scroll_of s.editor key) new
 
--- the session after the key of a journal's byte, if it completes one
+-- the session after the key of a press, if it has one
 abbrev pub after_replayed_key : Data → Session → Option Key → Session
 after_replayed_key d s key = moved_behind d s key (unmoved_after_key d s key)
 
--- the byte's key is applied, and a painting is owed
-abbrev pub after_replay : Data → Session → ℕ → Session
-after_replay d s b = with_painting_owed (after_replayed_key d (after_spending s b) (key_of_byte s b))
+-- a press of a journal: its key is applied, and a painting is owed
+abbrev pub after_replayed_press : Data → Session → Option Key → Session
+after_replayed_press d s key = with_painting_owed (after_replayed_key d s (counted_key s key))
 
 -- the same, where there was no memory for moving the top
-abbrev pub unmoved_after_replay : Data → Session → ℕ → Session
-unmoved_after_replay d s b = with_painting_owed (unmoved_after_key d (after_spending s b) (key_of_byte s b))
+abbrev pub unmoved_after_press : Data → Session → Option Key → Session
+unmoved_after_press d s key = with_painting_owed (unmoved_after_key d s (counted_key s key))
 
--- the session after bytes of a journal
-abbrev pub after_replaying : Data → Session → List ℕ → Session
+-- the session after presses of a journal
+abbrev pub after_replaying : Data → Session → List (Option Key) → Session
 after_replaying d s [] = s
-after_replaying d s (b ∷ bs) = after_replaying d (after_replay d s b) bs
+after_replaying d s (key ∷ more) = after_replaying d (after_replayed_press d s key) more
 
 -- the end of a replay, which ends a paste first; a painting is owed
 abbrev pub at_unscrolled_end : Data → Session → Session
@@ -114,8 +114,8 @@ abbrev pub at_replay_end : Data → Session → Session
 at_replay_end d s = session_scrolled d (at_unscrolled_end d s)
 
 -- the session after a whole journal
-abbrev pub after_journal : Data → Session → List ℕ → Session
-after_journal d s bytes = at_replay_end d (after_replaying d s bytes)
+abbrev pub after_journal : Data → Session → List (Option Key) → Session
+after_journal d s presses = at_replay_end d (after_replaying d s presses)
 
 -- the cursor goes to the first place at or after an offset, or to the last place, and a painting is owed
 abbrev pub after_going : Data → Session → ℕ → Session

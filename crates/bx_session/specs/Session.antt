@@ -1,10 +1,9 @@
--- The session's state, and its changes: an editor, the input that waits for more, and the bytes queued for the terminal. `d` is
--- Unicode's data, `s` the session before, `b` a byte of input.
+-- The session's state, and its changes: an editor, its pictures, and the bytes queued for the terminal. What reads the input stands
+-- beside the session. `d` is Unicode's data, `s` the session before.
 use Rattle.std.specs.Prelude.{ℕ, Bool, true, false, not, ◌||◌, List, [], ◌++◌, drop, Option, Some, None, if◌then◌else◌, ◌≡◌, is_some, option_map}
 use Rattle.bx_common.specs.declared.base.Base.{Base}
 use Rattle.bx_keys.specs.declared.key.Key.{Key}
 use Rattle.bx_keys.specs.declared.key.Key.TheVariants.{Save}
-use Rattle.bx_keys.specs.Keys.{head_of, key_after, rest_after}
 use Rattle.bx_grid.specs.Tokens.{clip_bytes}
 use Rattle.bx_grid.specs.Picture.{PictureState}
 use Rattle.bx_paint.specs.Painting.{whole_bytes, changes_bytes}
@@ -27,8 +26,6 @@ use Rattle.bx_editor.specs.Putting.{paste_ended}
 -- a session, without Unicode's tables
 pub record Session : Type 0 where
   pub editor : Editor
-  -- the input bytes that are not a whole key yet (`head_of`: of more than 12 bytes, which can give no key, the first 12)
-  pub rest : List ℕ
   -- the picture last painted; None before the first
   pub painted : Option PictureState
   -- the picture that the screen is taken to show once it has read all bytes; None if its content is unknown
@@ -86,7 +83,6 @@ with_painting_and_clip d scroll s clip = let new = with_painting_by d scroll s i
 abbrev pub before_painting : List ℕ → ℕ → ℕ → Base → Session
 before_painting text height width base = record {
   editor = at_start text height width base;
-  rest = [];
   painted = None;
   known = None;
   painting_owed = false;
@@ -98,15 +94,11 @@ abbrev pub at_opening : Data → List ℕ → ℕ → ℕ → Base → Session
 at_opening d text height width base =
     let s = before_painting text height width base in with_picture s s.editor (picture_of d s.editor)
 
--- ---- a byte
+-- ---- a press: a key, or none, as a byte of input completes it
 
--- the key that a byte completes; None if it completes none, and after the session's end
-abbrev pub key_of_byte : Session → ℕ → Option Key
-key_of_byte s b = if s.editor.ended then None else key_after s.rest b
-
--- a byte is consumed, whatever it completes
-abbrev pub after_spending : Session → ℕ → Session
-after_spending s b = if s.editor.ended then s else record s { rest = head_of (rest_after s.rest b) }
+-- the key of a press, as it counts: none after the session's end
+abbrev pub counted_key : Session → Option Key → Option Key
+counted_key s key = if s.editor.ended then None else key
 
 -- the picture known to be shown after a key that leads to the editor `e`: None after Repaint or a size, and at the session's
 -- end, so that the painting is of the whole screen
@@ -119,23 +111,23 @@ session_after_key d fault s key =
     let e = after_key d fault s.editor key in
     record s { editor = e; known = known_after s.known key e }
 
--- a byte's key, if it completes one, is applied, and not yet painted
+-- a key, if there is one, is applied, and not yet painted
 abbrev pub session_after_any : Data → Option StoreFault → Session → Option Key → Session
 session_after_any d fault s None = s
 session_after_any d fault s (Some key) = session_after_key d fault s key
 
--- the byte's key is applied, and not yet painted
-abbrev pub unpainted_after_byte : Data → Option StoreFault → Session → ℕ → Session
-unpainted_after_byte d fault s b = session_after_any d fault (after_spending s b) (key_of_byte s b)
+-- the key of a press is applied, and not yet painted
+abbrev pub unpainted_after_press : Data → Option StoreFault → Session → Option Key → Session
+unpainted_after_press d fault s key = session_after_any d fault s (counted_key s key)
 
 -- there is a key, and it may change the picture: all but what goes into a paste
 abbrev pub needs_painting : Editor → Option Key → Bool
 needs_painting e None = false
 needs_painting e (Some key) = not (needs_no_painting e key)
 
--- the picture is painted after the byte: its key may change it, or a painting is owed
-abbrev pub is_painted : Session → ℕ → Bool
-is_painted s b = s.painting_owed || needs_painting s.editor (key_of_byte s b)
+-- the picture is painted after the press: its key may change it, or a painting is owed
+abbrev pub is_painted_press : Session → Option Key → Bool
+is_painted_press s key = s.painting_owed || needs_painting s.editor (counted_key s key)
 
 -- what goes out to the clipboard after a key, if there was one; `e`: the editor after it
 abbrev pub clip_after : Editor → Option Key → Option (List ℕ)
@@ -151,15 +143,15 @@ scroll_behind e (Some key) = scroll_of e key
 abbrev pub painted_after : Data → Scroll → Session → Option Key → Session
 painted_after d scroll s key = with_painting_and_clip d scroll s (clip_after s.editor key)
 
--- after a byte that was not refused
-abbrev pub after_byte : Data → Option StoreFault → Session → ℕ → Session
-after_byte d fault s b =
-    let new = unpainted_after_byte d fault s b in
-    if is_painted s b then painted_after d (scroll_behind s.editor (key_of_byte s b)) new (key_of_byte s b) else new
+-- after a press that was not refused
+abbrev pub after_press : Data → Option StoreFault → Session → Option Key → Session
+after_press d fault s key =
+    let new = unpainted_after_press d fault s key in
+    if is_painted_press s key then painted_after d (scroll_behind s.editor (counted_key s key)) new (counted_key s key) else new
 
--- after a byte whose painting was refused
-abbrev pub owing_after_byte : Data → Option StoreFault → Session → ℕ → Session
-owing_after_byte d fault s b = with_painting_owed (unpainted_after_byte d fault s b)
+-- after a press whose painting was refused
+abbrev pub owing_after_press : Data → Option StoreFault → Session → Option Key → Session
+owing_after_press d fault s key = with_painting_owed (unpainted_after_press d fault s key)
 
 -- ---- before the keys: a clipboard, the cursor's offset, and an unsaved text
 
@@ -205,7 +197,7 @@ owing_after_told s height width = with_painting_owed (unpainted_after_told s hei
 abbrev pub after_sending : Session → ℕ → Session
 after_sending s count = record s { pending = drop count s.pending }
 
--- ---- the store after a byte
+-- ---- the store after a press
 
 -- a store's content, None if it is not known, and its failed calls: their number and the latest fault
 pub record StoreState : Type 0 where
@@ -236,9 +228,9 @@ abbrev pub stores_by : Editor → Option Key → Bool
 stores_by e None = false
 stores_by e (Some key) = is_some (saving_of e key)
 
--- the byte completes such a key
-abbrev pub is_save_byte : Session → ℕ → Bool
-is_save_byte s b = stores_by s.editor (key_of_byte s b)
+-- the press has such a key
+abbrev pub is_save_press : Session → Option Key → Bool
+is_save_press s key = stores_by s.editor (counted_key s key)
 
 -- before it stores the text, a Save ends a paste
 abbrev pub ready_to_store : Data → Editor → Key → Editor
@@ -249,7 +241,7 @@ ready_to_store d e key = e
 abbrev pub text_to_save : Data → Editor → List ℕ
 text_to_save d e = (paste_ended d e).content.text
 
--- the store after a byte: only a key that stores the text, and is applied, changes it
+-- the store after a press: only a key that stores the text, and is applied, changes it
 abbrev pub StoreAfter : Bool → Option StoreFault → List ℕ → StoreState → StoreState → Type 0
 StoreAfter true fault text old new = SaveEnds fault text old new
 StoreAfter false fault text old new = new ≡ old

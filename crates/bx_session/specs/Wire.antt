@@ -40,7 +40,7 @@ pub record DidWired {R J W S : Type 0} (remaining : R → Option (List ℕ)) (co
   pub end : action ≡ Read [] → IsAtEnd (remaining new.reader.now)
   pub tries : (bytes : List ℕ) → action ≡ Append bytes → HasTried contents failures old.recorder.now new.recorder.now bytes
 
--- the obeying of a byte changes nothing but the store
+-- the obeying of a press changes nothing but the store
 pub record ObeyedWired {R J W S : Type 0} (old new : Wired R J W S) : Type 0 where
   pub same : AreSameParts old new
   pub reader : new.reader.now ≡ old.reader.now

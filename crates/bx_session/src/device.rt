@@ -4,6 +4,7 @@
 use crate::session::Session;
 use crate::status::{Refused, Status};
 use bx_bytes::WriteFault;
+use bx_keys::Key;
 use bx_ucd::BidiData;
 use thiserror::Error;
 
@@ -14,18 +15,19 @@ pub struct DeviceFault;
 
 /// A source of input, a journal, an output and a store. `run_device` tells in which order a run calls them.
 pub trait Device {
-    ghost use Rattle.std.specs.Prelude.{◌≡◌, ◌≤◌, true, IfErr, IfOk, OnErr, OnOk, length, take};
+    ghost use Rattle.std.specs.Prelude.{◌≡◌, ◌≤◌, true, IfErr, IfOk, IfSome, OnErr, OnOk, length, take};
     ghost use Rattle.bx_session.specs.declared.action.Action.{Action};
-    ghost use Rattle.bx_session.specs.Session.{Session as SessionValue, StoreState, is_painted};
-    ghost use Rattle.bx_session.specs.Feeding.{Feeds};
-    ghost use Rattle.bx_session.specs.Painting.{FeedPaints};
-    ghost use Rattle.bx_session.specs.Running.{ByteAnswer};
+    ghost use Rattle.bx_keys.specs.Decoder.{HasSides};
+    ghost use Rattle.bx_session.specs.Session.{Session as SessionValue, StoreState, is_painted_press};
+    ghost use Rattle.bx_session.specs.Feeding.{Presses};
+    ghost use Rattle.bx_session.specs.Painting.{PressPaints};
+    ghost use Rattle.bx_session.specs.Running.{PressAnswer};
 
     /// Whether a call leads from one state of the device to another.
     ghost did: { Self → Action → Self → Type 0 };
 
-    /// Whether the obeying of a byte, with its answer, leads from one state of the device and a session to another.
-    ghost obeyed: { Self → SessionValue → ByteAnswer → Self → SessionValue → Type 0 };
+    /// Whether the obeying of a press, with its answer, leads from one state of the device and a session to another.
+    ghost obeyed: { Self → SessionValue → PressAnswer → Self → SessionValue → Type 0 };
 
     /// What the device's store has.
     ghost stored: { Self → StoreState };
@@ -44,19 +46,20 @@ pub trait Device {
         ensures did { did self.old (Action.Append bytes.now) self.new }
         ensures stored { stored self.new ≡ stored self.old };
 
-    /// Has a session obey a byte, as [`Session::feed`] does with the device's store.
+    /// Has a session obey a press, as [`Session::press`] does with the device's store.
     ///
     /// Errors: `Edit` and `Paint` if memory runs out, as there.
     fn obey<D: BidiData + Drop>(
         &mut self,
         session: &mut Session<D>,
-        byte: u8,
+        key: Option<Key>,
     ) -> Result<Status, Refused>
-        ensures obeyed { obeyed self.old session.old.session (byte, result) self.new session.new.session }
-        ensures after_byte { Feeds (D.data session.old.tables) session.old.session (stored self.old) byte result
+        requires sides { IfSome key HasSides }
+        ensures obeyed { obeyed self.old session.old.session (key, result) self.new session.new.session }
+        ensures after_press { Presses (D.data session.old.tables) session.old.session (stored self.old) key result
             session.new.session (stored self.new) }
-        ensures paints { is_painted session.old.session byte ≡ true →
-            OnOk result (FeedPaints (D.data session.old.tables) session.old.session byte session.new.session) }
+        ensures paints { is_painted_press session.old.session key ≡ true →
+            OnOk result (PressPaints (D.data session.old.tables) session.old.session key session.new.session) }
         ensures tables { session.new.tables ≡ session.old.tables };
 
     /// Writes all bytes.

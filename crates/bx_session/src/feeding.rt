@@ -1,13 +1,13 @@
-//! Feeding a session: input bytes, and the window's size.
+//! What a session is told: presses, and the window's size.
 
 ghost use Rattle.std.specs.Prelude.{◌≡◌, ◌&&◌, ◌||◌, Option, None, Some, true, false, is_ok, is_some, IfOk, IfSome, IsOk, OnErr, OnOk};
 ghost use Rattle.bx_grid.specs.Picture.{is_size};
 ghost use Rattle.bx_keys.specs.Decoder.{HasSides};
 ghost use Rattle.bx_editor.specs.Keys as keys;
 ghost use Rattle.bx_store.specs.declared.store.StoreFault.{StoreFault};
-ghost use Rattle.bx_session.specs.Painting.{FeedAppends, FeedPaints, ToldPaints};
-ghost use Rattle.bx_session.specs.Session.{StoreAfter, after_spending, is_painted, is_save_byte, key_of_byte, may_refuse_key, needs_painting, ready_to_store, scroll_behind, session_after_key, store_state, stores_by, text_to_save, unpainted_after_byte, unpainted_after_told};
-ghost use Rattle.bx_session.specs.Feeding.{Feeds, ToldBy, is_applied, is_idle};
+ghost use Rattle.bx_session.specs.Painting.{PressAppends, PressPaints, ToldPaints};
+ghost use Rattle.bx_session.specs.Session.{StoreAfter, counted_key, is_painted_press, is_save_press, may_refuse_key, needs_painting, ready_to_store, scroll_behind, session_after_key, store_state, stores_by, text_to_save, unpainted_after_press, unpainted_after_told};
+ghost use Rattle.bx_session.specs.Feeding.{Presses, ToldBy, is_applied, is_idle_press};
 
 use crate::saving::save_pieces;
 use crate::session::Session;
@@ -54,23 +54,20 @@ fn needs_painting<D: BidiData + Drop>(editor: &Editor<D>, key: Option<Key>) -> b
 }
 
 impl<D: BidiData + Drop> Session<D> {
-    /// Decodes a byte. Returns the key that it completes; None if it completes no key, and after the session's end.
-    pub(crate) fn decode(&mut self, byte: u8) -> Option<Key>
-        ensures key { result ≡ key_of_byte self.old.session byte }
-        ensures rest { self.new ≡ record self.old { session = after_spending self.old.session byte } }
+    /// The key of a press, as it counts: none after the session's end.
+    pub(crate) fn counted(&self, key: Option<Key>) -> Option<Key>
+        requires sides { IfSome key HasSides }
+        ensures key { result ≡ counted_key self.now.session key }
         ensures sides { IfSome result HasSides }
     {
-        if self.editor.ended() {
-            return None;
-        }
-        self.decoder.feed(byte)
+        if self.editor.ended() { None } else { key }
     }
 
     /// Applies a key, without painting. `fault` belongs to a key for which the text was stored: why that failed, or None.
     ///
     /// Errors: `Edit` if memory runs out, only for a key that edits, moves, copies, finds or ends a paste; nothing has changed. Never for a
     /// key that stores the text where no paste is under way.
-    pub(crate) fn press(&mut self, key: Key, fault: Option<StoreFault>) -> Result<(), Refused>
+    pub(crate) fn apply(&mut self, key: Key, fault: Option<StoreFault>) -> Result<(), Refused>
         requires sides { HasSides key }
         ensures after_key { OnOk result (self.new ≡ record self.old {
           session = session_after_key (D.data self.old.tables) fault self.old.session key;
@@ -124,7 +121,7 @@ impl<D: BidiData + Drop> Session<D> {
     ///
     /// Errors: `Edit` if memory runs out, only for a key that edits, moves, copies, finds or ends a paste; nothing has changed, and nothing
     /// is stored.
-    fn store_and_press<S: Store>(&mut self, key: Key, store: &mut S) -> Result<(), Refused>
+    fn store_and_apply<S: Store>(&mut self, key: Key, store: &mut S) -> Result<(), Refused>
         requires sides { HasSides key }
         ensures pressed { (fault : Option StoreFault)
             × StoreAfter (is_ok result && stores_by self.old.session.editor (Some key)) fault
@@ -138,7 +135,7 @@ impl<D: BidiData + Drop> Session<D> {
     {
         self.get_ready_for(key)?;
         let fault = self.store_for(key, store);
-        self.press(key, fault)
+        self.apply(key, fault)
     }
 
     /// Whether the picture is painted after this key, before the key is applied: it may change the picture, or a painting is owed.
@@ -148,66 +145,67 @@ impl<D: BidiData + Drop> Session<D> {
         self.painting_owed || needs_painting(&self.editor, key)
     }
 
-    /// Decodes a byte and applies the key that it completes. Returns whether to paint, how the key moves the top, and the key.
+    /// Applies the key of a press. Returns whether to paint, how the key moves the top, and the key as it counts.
     ///
-    /// Errors: `Edit` if memory runs out, only for a key that edits, moves, copies, finds or ends a paste; the byte is consumed, and
-    /// nothing else has changed.
+    /// Errors: `Edit` if memory runs out, only for a key that edits, moves, copies, finds or ends a paste; nothing has changed.
     fn enter<S: Store>(
         &mut self,
-        byte: u8,
+        key: Option<Key>,
         store: &mut S,
     ) -> Result<(bool, Scroll, Option<Key>), Refused>
-        ensures after_byte { (fault : Option StoreFault)
-            × StoreAfter (is_applied result && is_save_byte self.old.session byte) fault
+        requires sides { IfSome key HasSides }
+        ensures after_press { (fault : Option StoreFault)
+            × StoreAfter (is_applied result && is_save_press self.old.session key) fault
             (text_to_save (D.data self.old.tables) self.old.session.editor)
             (store_state S.contents S.faults store.old) (store_state S.contents S.faults store.new)
-            × OnOk result (self.new ≡ record self.old { session = unpainted_after_byte (D.data self.old.tables) fault self.old.session byte }) }
-        ensures prompts { IfOk result (λ entered. entered.0 ≡ is_painted self.old.session byte) }
-        ensures scroll { IfOk result (λ entered. entered.1 ≡ scroll_behind self.old.session.editor (key_of_byte self.old.session byte)) }
-        ensures key { IfOk result (λ entered. entered.2 ≡ key_of_byte self.old.session byte) }
-        ensures untouched { is_save_byte self.old.session byte ≡ false → store.new ≡ store.old }
-        ensures err { OnErr result (self.new ≡ record self.old { session = after_spending self.old.session byte }) }
-        ensures edits { OnErr result (may_refuse_key self.old.session.editor (key_of_byte self.old.session byte) ≡ true) }
+            × OnOk result (self.new ≡ record self.old { session = unpainted_after_press (D.data self.old.tables) fault self.old.session key }) }
+        ensures prompts { IfOk result (λ entered. entered.0 ≡ is_painted_press self.old.session key) }
+        ensures scroll { IfOk result (λ entered. entered.1 ≡ scroll_behind self.old.session.editor (counted_key self.old.session key)) }
+        ensures key { IfOk result (λ entered. entered.2 ≡ counted_key self.old.session key) }
+        ensures untouched { is_save_press self.old.session key ≡ false → store.new ≡ store.old }
+        ensures err { OnErr result (self.new ≡ self.old) }
+        ensures edits { OnErr result (may_refuse_key self.old.session.editor (counted_key self.old.session key) ≡ true) }
         ensures refused { OnErr result (result ≡ Err Refused.Edit) }
     {
-        let key = self.decode(byte);
-        let prompts = self.asks_for_painting(key);
-        let scroll = scroll_behind(&self.editor, key);
-        match key {
+        let counts = self.counted(key);
+        let prompts = self.asks_for_painting(counts);
+        let scroll = scroll_behind(&self.editor, counts);
+        match counts {
             Some(pressed) => {
-                self.store_and_press(pressed, store)?;
-                Ok((prompts, scroll, key))
+                self.store_and_apply(pressed, store)?;
+                Ok((prompts, scroll, counts))
             }
-            None => Ok((prompts, scroll, key)),
+            None => Ok((prompts, scroll, counts)),
         }
     }
 
-    /// Handles a byte of input. A byte that completes no key allocates nothing if no painting is owed, and a character of a paste
-    /// nothing but the memory for it.
+    /// Takes what a step of the input completed: a key, which is applied, or none. A press of no key allocates nothing if no painting is
+    /// owed, and a character of a paste nothing but the memory for it. After the session's end no key counts.
     ///
-    /// Errors: `Edit` if memory runs out for the key: its bytes are consumed, and nothing else has changed. `Paint` if it runs
-    /// out while painting, or for the clip after that: the key is applied, the queue is unchanged, and the painting is owed.
-    pub fn feed<S: Store>(&mut self, byte: u8, store: &mut S) -> Result<Status, Refused>
-        ensures after_byte { Feeds (D.data self.old.tables) self.old.session (store_state S.contents S.faults store.old) byte result
+    /// Errors: `Edit` if memory runs out for the key: nothing has changed. `Paint` if it runs out while painting, or for the clip after
+    /// that: the key is applied, the queue is unchanged, and the painting is owed.
+    pub fn press<S: Store>(&mut self, key: Option<Key>, store: &mut S) -> Result<Status, Refused>
+        requires sides { IfSome key HasSides }
+        ensures after_press { Presses (D.data self.old.tables) self.old.session (store_state S.contents S.faults store.old) key result
             self.new.session (store_state S.contents S.faults store.new) }
         ensures tables { self.new.tables ≡ self.old.tables }
-        ensures paints { is_painted self.old.session byte ≡ true →
-            OnOk result (FeedPaints (D.data self.old.tables) self.old.session byte self.new.session) }
-        ensures appends { is_painted self.old.session byte ≡ true →
-            OnOk result (FeedAppends (D.data self.old.tables) self.old.session byte self.new.session) }
-        ensures quiet { is_painted self.old.session byte ≡ false → self.new.session.pending ≡ self.old.session.pending }
+        ensures paints { is_painted_press self.old.session key ≡ true →
+            OnOk result (PressPaints (D.data self.old.tables) self.old.session key self.new.session) }
+        ensures appends { is_painted_press self.old.session key ≡ true →
+            OnOk result (PressAppends (D.data self.old.tables) self.old.session key self.new.session) }
+        ensures quiet { is_painted_press self.old.session key ≡ false → self.new.session.pending ≡ self.old.session.pending }
         ensures refused { OnErr result (self.new.session.pending ≡ self.old.session.pending) }
-        ensures untouched { is_save_byte self.old.session byte ≡ false → store.new ≡ store.old }
+        ensures untouched { is_save_press self.old.session key ≡ false → store.new ≡ store.old }
 
-        // A byte that completes no key while no painting is owed.
-        ensures idle { is_idle self.old.session byte ≡ true → IsOk result }
-        ensures unchanged { is_idle self.old.session byte ≡ true → self.new.session ≡ after_spending self.old.session byte }
+        // A press of no key while no painting is owed.
+        ensures idle { is_idle_press self.old.session key ≡ true → IsOk result }
+        ensures unchanged { is_idle_press self.old.session key ≡ true → self.new.session ≡ self.old.session }
     {
-        let (prompts, scroll, key) = self.enter(byte, store)?;
+        let (prompts, scroll, counts) = self.enter(key, store)?;
         if !prompts {
             return Ok(self.status());
         }
-        self.paint_after(key, scroll)?;
+        self.paint_after(counts, scroll)?;
         Ok(self.status())
     }
 

@@ -1,4 +1,5 @@
-//! An editor session: takes input bytes, queues bytes for the terminal, saves to a store; and runs over a reader and a writer.
+//! An editor session: takes keys, queues bytes for the terminal, saves to a store; and runs over a reader and a writer, whose bytes a
+//! decoder beside the session makes keys of.
 #![tactic(auto)]
 
 mod action;

@@ -9,6 +9,7 @@ use crate::device::{Device, DeviceFault};
 use crate::session::Session;
 use crate::status::{Refused, Status};
 use bx_bytes::WriteFault;
+use bx_keys::Key;
 use bx_store::MemoryStore;
 use bx_ucd::BidiData;
 use std::alloc::{AllocError, Global};
@@ -114,9 +115,9 @@ impl Device for MemoryDevice {
     fn obey<D: BidiData + Drop>(
         &mut self,
         session: &mut Session<D>,
-        byte: u8,
+        key: Option<Key>,
     ) -> Result<Status, Refused> {
-        session.feed(byte, &mut self.store)
+        session.press(key, &mut self.store)
     }
 
     fn write(&mut self, bytes: &[u8]) -> Result<(), WriteFault> {

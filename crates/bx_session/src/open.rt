@@ -11,7 +11,6 @@ use crate::session::Session;
 use crate::status::Refused;
 use bx_common::Base;
 use bx_editor::{Editor, OpenError, Settings};
-use bx_keys::Decoder;
 use bx_ucd::BidiData;
 
 impl<D: BidiData + Drop> Session<D> {
@@ -59,7 +58,6 @@ impl<D: BidiData + Drop> Session<D> {
         let editor = Editor::open(bytes, tables, height, width, base)?;
         let mut session = Session {
             editor,
-            decoder: Decoder::new(),
             painted: None,
             spare: None,
             is_known: false,

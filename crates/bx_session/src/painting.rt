@@ -130,7 +130,7 @@ fn spare_of(picture: Option<Picture>) -> Option<Grid>
 }
 
 impl<D: BidiData + Drop> Session<D> {
-    /// Scrolls to the cursor and queues the bytes that paint the picture. `feed` and `set_window_size` paint by themselves; `replay`,
+    /// Scrolls to the cursor and queues the bytes that paint the picture. `press` and `set_window_size` paint by themselves; `press_again`,
     /// `go_to` and `count_as_changed` do not.
     ///
     /// Errors: `Paint` if memory runs out: top and queue are unchanged, and the painting is owed.

@@ -1,11 +1,11 @@
-//! Replay of a journal's bytes in a session that opened the same text: keys are applied again, and nothing is stored.
+//! Replay of a journal's presses in a session that opened the same text: keys are applied again, and nothing is stored.
 
 ghost use Rattle.std.specs.Prelude.{◌≡◌, ◌↔◌, ◌⊎◌, IsErrOf, IsOk, IsTrue, true, None, Some, is_some, IfErr, IfSome, OnErr, OnOk};
-ghost use Rattle.bx_session.specs.Session.{after_spending, key_of_byte, store_state, with_text};
+ghost use Rattle.bx_session.specs.Session.{counted_key, store_state, with_text};
 ghost use Rattle.bx_keys.specs.Decoder.{HasSides};
 ghost use Rattle.bx_editor.specs.Keys.{may_refuse};
 ghost use Rattle.bx_editor.specs.Putting.{paste_ended};
-ghost use Rattle.bx_session.specs.Replaying.{after_passed, after_replay, after_replayed_key, at_replay_end, at_unscrolled_end, session_after_replayed, session_moved_by, session_replayed_on, session_scrolled, unmoved_after_key, unmoved_after_replay};
+ghost use Rattle.bx_session.specs.Replaying.{after_passed, after_replayed_key, after_replayed_press, at_replay_end, at_unscrolled_end, session_after_replayed, session_moved_by, session_replayed_on, session_scrolled, unmoved_after_key, unmoved_after_press};
 ghost use Rattle.bx_store.specs.Faults.{with_fault};
 
 use crate::saving::{is_text, save_pieces};
@@ -44,7 +44,7 @@ impl<D: BidiData + Drop> Session<D> {
     /// and a question too; a Quit gives up a search or a question. Neither stores a text, nor ends the session.
     ///
     /// Errors: `Edit` if memory runs out, only for a key that edits, moves, copies, finds or ends a paste; nothing has changed.
-    fn press_again(&mut self, key: Key) -> Result<(), Refused>
+    fn apply_again(&mut self, key: Key) -> Result<(), Refused>
         requires sides { HasSides key }
         ensures after_key { OnOk result (self.new ≡ record self.old {
           session = session_replayed_on (D.data self.old.tables) self.old.session key;
@@ -60,7 +60,7 @@ impl<D: BidiData + Drop> Session<D> {
         if self.editor.saving_of(key).is_some() {
             return self.pass_stored(key);
         }
-        self.press(key, None)
+        self.apply(key, None)
     }
 
     /// Passes over a Quit of a journal, or gives up a search or a question with it, where no paste is under way.
@@ -79,7 +79,7 @@ impl<D: BidiData + Drop> Session<D> {
                 self.editor.pass_quit();
                 Ok(())
             }
-            _ => self.press(Key::Quit, None),
+            _ => self.apply(Key::Quit, None),
         }
     }
 
@@ -134,7 +134,7 @@ impl<D: BidiData + Drop> Session<D> {
     ///
     /// Errors: `Edit` if memory runs out for the key or for scrolling before it; nothing has changed. `Paint` if it runs out for moving
     /// the top: the key is applied, and the top stays.
-    fn scroll_and_press(&mut self, key: Key) -> Result<(), Refused>
+    fn scroll_and_apply(&mut self, key: Key) -> Result<(), Refused>
         requires sides { HasSides key }
         ensures after_key { OnOk result (self.new ≡ record self.old {
           session = after_replayed_key (D.data self.old.tables) self.old.session (Some key);
@@ -150,7 +150,7 @@ impl<D: BidiData + Drop> Session<D> {
         if self.scroll().is_err() {
             return Err(Refused::Edit);
         }
-        match self.press_again(key) {
+        match self.apply_again(key) {
             Ok(()) => self.move_top(scroll),
             Err(refused) => {
                 self.editor.set_top(top);
@@ -159,11 +159,11 @@ impl<D: BidiData + Drop> Session<D> {
         }
     }
 
-    /// Applies the key of a journal that a byte completed, if it completed one.
+    /// Applies the key of a press of a journal, if it has one.
     ///
     /// Errors: `Edit` if memory runs out for the key or for scrolling before it; nothing has changed. `Paint` if it runs out for moving
     /// the top: the key is applied, and the top stays.
-    fn press_completed(&mut self, key: Option<Key>) -> Result<(), Refused>
+    fn apply_counted(&mut self, key: Option<Key>) -> Result<(), Refused>
         requires sides { IfSome key HasSides }
         ensures after_key { OnOk result (self.new ≡ record self.old {
           session = after_replayed_key (D.data self.old.tables) self.old.session key;
@@ -176,27 +176,30 @@ impl<D: BidiData + Drop> Session<D> {
         ensures refused { OnErr result ((result ≡ Err Refused.Edit) ⊎ (result ≡ Err Refused.Paint)) }
     {
         match key {
-            Some(key) => self.scroll_and_press(key),
+            Some(key) => self.scroll_and_apply(key),
             None => Ok(()),
         }
     }
 
-    /// Decodes a byte of a journal and applies the key that it completes, without painting. A Save stores nothing, and a Quit
-    /// does not end the session. Call [`Session::end_replay`] after the last byte.
+    /// Takes a press of a journal: applies its key, if it has one, without painting. A Save stores nothing, and a Quit does not end the
+    /// session. Call [`Session::end_replay`] after the last press.
     ///
-    /// Errors: `Edit` if memory runs out for the key or for scrolling before it: its bytes are consumed, and nothing else has changed.
-    /// `Paint` if it runs out for moving the top behind the key: the key is applied, and the top stays. Never without a key.
-    pub fn replay(&mut self, byte: u8) -> Result<(), Refused>
-        ensures after_byte { OnOk result (self.new ≡ record self.old { session = after_replay (D.data self.old.tables) self.old.session byte }) }
+    /// Errors: `Edit` if memory runs out for the key or for scrolling before it: nothing has changed. `Paint` if it runs out for moving the
+    /// top behind the key: the key is applied, and the top stays. Never without a key.
+    pub fn press_again(&mut self, key: Option<Key>) -> Result<(), Refused>
+        requires sides { IfSome key HasSides }
+        ensures after_press { OnOk result (self.new ≡ record self.old {
+          session = after_replayed_press (D.data self.old.tables) self.old.session key;
+        }) }
         ensures unmoved { IsErrOf result Refused.Paint → self.new ≡ record self.old {
-          session = unmoved_after_replay (D.data self.old.tables) self.old.session byte;
+          session = unmoved_after_press (D.data self.old.tables) self.old.session key;
         } }
-        ensures err { IsErrOf result Refused.Edit → self.new ≡ record self.old { session = after_spending self.old.session byte } }
-        ensures keys { OnErr result (is_some (key_of_byte self.old.session byte) ≡ true) }
+        ensures err { IsErrOf result Refused.Edit → self.new ≡ self.old }
+        ensures keys { OnErr result (is_some (counted_key self.old.session key) ≡ true) }
         ensures refused { OnErr result ((result ≡ Err Refused.Edit) ⊎ (result ≡ Err Refused.Paint)) }
     {
-        let key = self.decode(byte);
-        match self.press_completed(key) {
+        let counts = self.counted(key);
+        match self.apply_counted(counts) {
             Ok(()) => {
                 self.painting_owed = true;
                 Ok(())

@@ -9,6 +9,7 @@ use crate::device::Device;
 use crate::end::{End, RunFault};
 use crate::keeping::keep_and_obey;
 use crate::session::Session;
+use bx_keys::Decoder;
 use bx_ucd::BidiData;
 
 /// Writes the pending bytes and flushes.
@@ -37,18 +38,19 @@ fn send<D: BidiData + Drop, V: Device>(
 }
 
 /// Runs a session: writes the pending bytes and flushes; then, until the end, reads at most 256 bytes, hands those
-/// up to the session's end to the journal and obeys them, part by part, writes the pending bytes and flushes. Bytes after the
-/// end are dropped, and a refused byte does not end the run.
+/// up to the session's end to the journal and obeys their presses, part by part, writes the pending bytes and flushes. Bytes after the
+/// end are dropped, and a refused press does not end the run. `decoder` holds the bytes that wait for more, before and after.
 ///
 /// Errors: `ReadFault`; `WriteFault`: a prefix of the output was written, and the rest is still pending; `ReadLimit` after
 /// `limit` reads that each gave a byte.
 pub fn run_device<D: BidiData + Drop, V: Device>(
     limit: u64,
     device: &mut V,
+    decoder: &mut Decoder,
     session: &mut Session<D>,
 ) -> Result<End, RunFault>
-    ensures logged { HasLogged V.did V.obeyed V.stored (D.data session.old.tables) limit result session.old.session session.new.session
-        device.old device.new }
+    ensures logged { HasLogged V.did V.obeyed V.stored (D.data session.old.tables) limit result decoder.old decoder.new
+        session.old.session session.new.session device.old device.new }
     ensures tables { session.new.tables ≡ session.old.tables }
     ensures ends { EndsWith result session.new.session None }
 {
@@ -69,7 +71,7 @@ pub fn run_device<D: BidiData + Drop, V: Device>(
             let changed = session.changed();
             return Ok(End::InputEnded { changed });
         }
-        keep_and_obey(session, bytes, device);
+        keep_and_obey(decoder, session, bytes, device);
         send(device, session)?;
     }
     if session.ended() {

@@ -2,22 +2,20 @@
 
 ghost use Rattle.std.specs.Prelude.{◌≡◌, ◌≤◌, MatchOption, None, Some, length};
 ghost use Rattle.bx_editor.specs.Functions.{has_changes};
-ghost use Rattle.bx_session.specs.Session.{after_sending, is_save_byte, key_of_byte};
+ghost use Rattle.bx_session.specs.Session.{after_sending, is_save_press};
 ghost use Rattle.bx_session.specs.Feeding.{status_of};
 
 use crate::status::Status;
 use bx_editor::{Editor, Prompt, SearchPurpose, SearchState};
 use bx_grid::{Grid, Picture};
-use bx_keys::{Decoder, Key};
+use bx_keys::Key;
 use bx_ucd::BidiData;
 use std::marker::Model;
 
-/// An editor, the unfinished input sequence, and the bytes queued for the terminal.
+/// An editor, its pictures, and the bytes queued for the terminal. What reads the input stands beside it.
 #[derive(Drop)]
 pub struct Session<D: BidiData + Drop> {
     pub(crate) editor: Editor<D>,
-    // the input bytes that are not a whole key yet
-    pub(crate) decoder: Decoder,
     // the picture last painted; None before the first
     pub(crate) painted: Option<Picture>,
     // the page of the picture before `painted`, on which the next one is made; None if there is none yet
@@ -44,7 +42,6 @@ impl<D: BidiData + Drop> Model for Session<D> {
       tables = s.editor.tables;
       session = record {
         editor = s.editor.editor;
-        rest = s.decoder;
         painted = s.painted;
         known = known_if s.is_known s.painted;
         painting_owed = s.painting_owed;
@@ -163,24 +160,13 @@ impl<D: BidiData + Drop> Session<D> {
         self.editor.typed_answer()
     }
 
-    /// The key that a byte would complete now; None if it would complete none, and after the session's end. Allocates nothing.
-    pub fn key_of(&self, byte: u8) -> Option<Key>
-        ensures { result ≡ key_of_byte self.now.session byte }
+    /// Whether a press would store the text now: its key is a Save, or an answer. Allocates nothing.
+    pub fn stores(&self, key: Option<Key>) -> bool
+        ensures { result ≡ is_save_press self.now.session key }
     {
-        if self.editor.ended() {
-            return None;
-        }
-        let mut decoder = self.decoder;
-        decoder.feed(byte)
-    }
-
-    /// Whether a byte would complete a key that stores the text now: a Save, or an answer. Allocates nothing.
-    pub fn stores(&self, byte: u8) -> bool
-        ensures { result ≡ is_save_byte self.now.session byte }
-    {
-        match self.key_of(byte) {
-            Some(key) => self.editor.saving_of(key).is_some(),
-            None => false,
+        match key {
+            Some(key) if !self.editor.ended() => self.editor.saving_of(key).is_some(),
+            _ => false,
         }
     }
 

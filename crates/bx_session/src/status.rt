@@ -3,8 +3,8 @@
 /// Why a session refuses a call.
 #[derive(Clone, Copy, Debug)]
 pub enum Refused {
-    /// Out of memory while applying a key, scrolling before a key of a journal, or moving the cursor before the first key. A key's
-    /// bytes are consumed; nothing else has changed.
+    /// Out of memory while applying a key, scrolling before a key of a journal, or moving the cursor before the first key:
+    /// nothing has changed.
     Edit,
     /// Out of memory while painting, or moving the top behind a key of a journal: the key or the size is applied, and the next call that
     /// succeeds paints.
@@ -16,8 +16,8 @@ pub enum Refused {
 /// Whether a session has ended.
 #[derive(Clone, Copy)]
 pub enum Status {
-    /// It takes more bytes.
+    /// It takes more presses.
     Running,
-    /// Quit has ended it. Further bytes give no key.
+    /// Quit has ended it. Further keys do not count.
     Ended,
 }

@@ -7,6 +7,7 @@ use crate::journal::{Journal, Recorder};
 use crate::session::Session;
 use crate::status::{Refused, Status};
 use bx_bytes::{WriteFault, write_all};
+use bx_keys::Key;
 use bx_store::Store;
 use bx_ucd::BidiData;
 use std::io::{Read, Write};
@@ -71,9 +72,9 @@ impl<R: Read, J: Journal + Drop, W: Write, S: Store> Device for Wired<'_, R, J, 
     fn obey<D: BidiData + Drop>(
         &mut self,
         session: &mut Session<D>,
-        byte: u8,
+        key: Option<Key>,
     ) -> Result<Status, Refused> {
-        session.feed(byte, self.store)
+        session.press(key, self.store)
     }
 
     fn write(&mut self, bytes: &[u8]) -> Result<(), WriteFault> {

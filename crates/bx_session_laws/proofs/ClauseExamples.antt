@@ -1,5 +1,5 @@
 -- Worked examples, each from a clause of a run alone.
-use Rattle.std.proofs.Common.{◌≡◌, ◌≢◌, ◌≤◌, ◌<◌, ◌+◌, ℕ, zero, suc, Bool, true, false, List, [], ◌∷◌, ◌++◌, length, take, Option, Some, None, Ok, inl, inr}
+use Rattle.std.proofs.Common.{◌≡◌, ◌≢◌, ◌≤◌, ◌+◌, ℕ, zero, suc, Bool, true, false, List, [], ◌∷◌, ◌++◌, length, take, Option, Some, None, Ok, inl, inr}
 use Rattle.std.proofs.Common.{refl, sym, ap, subst, ◌∙◌, append_assoc, arith}
 use Rattle.std.specs.Global.{Vec}
 use Rattle.std.specs.Prelude.{codes, option_map, vec_items, vec_capacity}
@@ -13,6 +13,7 @@ use Rattle.bx_store.specs.Stores.{fault, no_faults}
 use Rattle.bx_store.specs.declared.cause.SaveCause.TheVariants.{NoSpace}
 use Rattle.bx_store.specs.declared.faults.Faults.{Faults}
 use Rattle.bx_store.specs.declared.store.StoreFault.{StoreFault}
+use Rattle.bx_keys.specs.declared.key.Key.TheVariants.{Save}
 use Rattle.bx_ucd.specs.Data.{Data}
 use Rattle.bx_editor.specs.declared.message.Message.TheVariants.{SaveFailed}
 use Rattle.bx_session.specs.declared.action.Action.TheVariants.{Append}
@@ -21,9 +22,9 @@ use Rattle.bx_session.specs.declared.journal.Backlog.TheVariants.{Empty, Waiting
 use Rattle.bx_session.specs.declared.wired.Wired.{Wired}
 use Rattle.bx_session.specs.Journal.{RecorderState, HasKept, HasTried, is_lost, room, waiting, after_faults}
 use Rattle.bx_session.specs.Log.{AreTaken, Calls}
-use Rattle.bx_session.specs.Running.{ByteAnswer, HasRun, bytes_of}
-use Rattle.bx_session.specs.Session.{SaveEnds, StoreState, Session, after_byte}
-use Rattle.bx_session.specs.Feeding.{Feeds}
+use Rattle.bx_session.specs.Running.{PressAnswer, HasRun}
+use Rattle.bx_session.specs.Session.{SaveEnds, StoreState, Session, after_press}
+use Rattle.bx_session.specs.Feeding.{Presses}
 use Rattle.bx_session.specs.Wire.{DidWired, ObeyedWired}
 use Rattle.bx_session.proofs.Computed.{start}
 use Rattle.bx_session.proofs.Recorded.{has_none}
@@ -36,15 +37,16 @@ first_alone a [] [] is = sym is
 first_alone a [] (d ∷ dropped) is = absurd (cc is)
 first_alone a (b ∷ more) dropped is = absurd (cc is)
 
--- a reader's one byte is fed, and not dropped
-pub a_byte_is_fed : (new all : Session) (store store' : StoreState) (writer writer' : Option (List ℕ)) (answered : List ByteAnswer)
-    (dropped written : List ℕ)
-    → HasRun tables (start (codes "ab") 1 5) new store store' (Some (codes "x")) (Some []) writer writer' answered dropped written all
-    → bytes_of answered ≡ codes "x"
-a_byte_is_fed new all store store' writer writer' [] dropped written run =
+-- a reader's one byte is typed, and not dropped
+pub a_byte_is_typed : (rest : List ℕ) (new all : Session) (store store' : StoreState) (writer writer' : Option (List ℕ)) (typed : List ℕ)
+    (answered : List PressAnswer) (dropped written : List ℕ)
+    → HasRun tables [] rest (start (codes "ab") 1 5) new store store' (Some (codes "x")) (Some []) writer writer' typed answered dropped written all
+    → typed ≡ codes "x"
+a_byte_is_typed rest new all store store' writer writer' [] [] dropped written run =
     let none = none_dropped dropped all.editor.ended run.drops (ap (λ (s : Session). s.editor.ended) run.feeds.0) in
     absurd (let is : codes "x" ≡ [] = run.reads ∙ append-nil dropped ∙ none in cc is)
-a_byte_is_fed new all store store' writer writer' (a ∷ answered) dropped written run = first_alone a.0 (bytes_of answered) dropped run.reads
+a_byte_is_typed rest new all store store' writer writer' [] (a ∷ answered) dropped written run = absurd (let is = run.presses in cc is)
+a_byte_is_typed rest new all store store' writer writer' (b ∷ typed) answered dropped written run = first_alone b typed dropped run.reads
 
 grown : {appended bytes there : List ℕ} {before after : Option (List ℕ)} → appended ≡ bytes → before ≡ Some (codes "ab") → after ≡ Some there
     → Appends before after appended → there ≡ codes "ab" ++ bytes
@@ -172,7 +174,7 @@ no_space = fault (Some NoSpace)
 
 -- the status row has the cause of the latest failed call, which is this Save's
 cause_told : (store store' : StoreState) (ended : Option StoreFault) (new : Session) → SaveEnds ended (codes "ab") store store'
-    → new ≡ after_byte tables ended unsaved 0x13 → store.faults ≡ no_faults → store'.faults.latest ≡ Some no_space
+    → new ≡ after_press tables ended unsaved (Some Save) → store.faults ≡ no_faults → store'.faults.latest ≡ Some no_space
     → new.editor.message ≡ Some (SaveFailed (Some NoSpace))
 unfolding unicode_segmentation unicode_width digits
 cause_told store store' None new ends is none latest =
@@ -181,7 +183,7 @@ cause_told store store' (Some failed) new ends is none latest =
     let same : Some failed ≡ Some no_space = sym (ap (λ (f : Faults). f.latest) ends.1) ∙ latest in
     ap (λ (s : Session). s.editor.message) is ∙ ap (option_map (λ (f : StoreFault). SaveFailed f.cause)) same
 
-pub a_full_disk_is_told : (store store' : StoreState) (status : Status) (new : Session) → Feeds tables unsaved store 0x13 (Ok status) new store'
+pub a_full_disk_is_told : (store store' : StoreState) (status : Status) (new : Session) → Presses tables unsaved store (Some Save) (Ok status) new store'
     → store.faults ≡ no_faults → store'.faults.latest ≡ Some no_space → new.editor.message ≡ Some (SaveFailed (Some NoSpace))
 unfolding unicode_segmentation unicode_width digits
 a_full_disk_is_told store store' status new feeds = cause_told store store' feeds.0 new feeds.1 feeds.2.0

@@ -1,12 +1,13 @@
 -- Worked examples: the bytes queued after input.
-use Rattle.std.proofs.Common.{◌≡◌, ℕ, List, [], ◌∷◌, ◌++◌, None, refl}
+use Rattle.std.proofs.Common.{◌≡◌, ℕ, List, [], ◌∷◌, ◌++◌, None, Some, refl}
 use Rattle.std.specs.Prelude.{codes}
 use Rattle.std.specs.Fmt.{digits}
 use Rattle.unicode_segmentation.proofs.Computing.{unicode_segmentation}
 use Rattle.unicode_width.proofs.Computing.{unicode_width}
+use Rattle.bx_keys.specs.declared.key.Key.TheVariants.{Insert}
 use Rattle.bx_editor.proofs.Computed.{tables}
 use Rattle.bx_session.specs.declared.status.Status.TheVariants.{Running, Ended}
-use Rattle.bx_session.specs.Session.{Session, after_byte, owing_after_byte, after_told, owing_after_told}
+use Rattle.bx_session.specs.Session.{Session, after_press, owing_after_press, after_told, owing_after_told}
 use Rattle.bx_session.specs.Feeding.{status_of}
 use Rattle.bx_session.proofs.Computed.{start, with_all_sent, after, outputs, csi}
 
@@ -43,7 +44,7 @@ a_long_line_is_painted_in_rows = refl
 -- ---- a painting that was refused
 
 abbrev owing : Session
-owing = owing_after_byte tables None (with_all_sent (start (codes "ab") 1 5)) 0x78
+owing = owing_after_press tables None (with_all_sent (start (codes "ab") 1 5)) (Some (Insert 0x78))
 
 pub nothing_is_queued_by_a_refusal : owing.pending ≡ []
 unfolding unicode_segmentation unicode_width digits
@@ -53,13 +54,13 @@ pub the_key_was_applied : text_and_place owing ≡ (codes "xab", 1)
 unfolding unicode_segmentation unicode_width digits
 the_key_was_applied = refl
 
-pub the_next_byte_paints_both : (after_byte tables None owing 0x79).pending ≡ codes "\u{1b}[1;1Hxyab\u{1b}[1;3H"
+pub the_next_key_paints_both : (after_press tables None owing (Some (Insert 0x79))).pending ≡ codes "\u{1b}[1;1Hxyab\u{1b}[1;3H"
 unfolding unicode_segmentation unicode_width digits
-the_next_byte_paints_both = refl
+the_next_key_paints_both = refl
 
-pub a_byte_that_ends_no_key_paints_what_is_owed : (after_byte tables None owing 0x00).pending ≡ codes "\u{1b}[1;1Hxab\u{1b}[1;2H"
+pub a_press_without_a_key_paints_what_is_owed : (after_press tables None owing None).pending ≡ codes "\u{1b}[1;1Hxab\u{1b}[1;2H"
 unfolding unicode_segmentation unicode_width digits
-a_byte_that_ends_no_key_paints_what_is_owed = refl
+a_press_without_a_key_paints_what_is_owed = refl
 
 -- ---- sizes
 
@@ -68,7 +69,7 @@ pub a_size_is_painted_whole : outputs (start (codes "ab") 1 5) (csi (codes "8;0;
 unfolding unicode_segmentation unicode_width digits
 a_size_is_painted_whole = refl
 
-pub a_size_that_is_owed_is_painted_whole : (after_byte tables None (owing_after_told (with_all_sent (start (codes "ab") 1 5)) 2 10) 0x00).pending
+pub a_size_that_is_owed_is_painted_whole : (after_press tables None (owing_after_told (with_all_sent (start (codes "ab") 1 5)) 2 10) None).pending
     ≡ codes "\u{1b}[0m\u{1b}[2J\u{1b}[1;1Hab\u{1b}[2;1H-\u{1b}[2;3H1:1\u{1b}[1;1H"
 unfolding unicode_segmentation unicode_width digits
 a_size_that_is_owed_is_painted_whole = refl
@@ -80,11 +81,11 @@ pub a_size_after_the_end_is_painted_blank : (after_told tables over 2 10).pendin
 unfolding unicode_segmentation unicode_width digits
 a_size_after_the_end_is_painted_blank = refl
 
-pub a_byte_after_the_end_queues_nothing : (after_byte tables None over 0x78).pending ≡ []
+pub a_key_after_the_end_queues_nothing : (after_press tables None over (Some (Insert 0x78))).pending ≡ []
 unfolding unicode_segmentation unicode_width digits
-a_byte_after_the_end_queues_nothing = refl
+a_key_after_the_end_queues_nothing = refl
 
-pub it_stays_ended : status_of (after_byte tables None over 0x78) ≡ Ended
+pub it_stays_ended : status_of (after_press tables None over (Some (Insert 0x78))) ≡ Ended
 unfolding unicode_segmentation unicode_width digits
 it_stays_ended = refl
 

@@ -7,7 +7,6 @@ use Rattle.std.proofs.lemmas.List.{append-nil}
 use Rattle.std.proofs.lemmas.List.Elements.{All-tail}
 use Rattle.bx_keys.specs.declared.key.Key.{Key}
 use Rattle.bx_keys.specs.declared.key.Key.TheVariants.{Quit}
-use Rattle.bx_keys.specs.Keys.{key_after}
 use Rattle.bx_text.specs.Edits.{Edit}
 use Rattle.bx_store.specs.declared.store.StoreFault.{StoreFault}
 use Rattle.bx_ucd.specs.Data.{Data}
@@ -22,15 +21,17 @@ use Rattle.bx_session.specs.declared.journal.Backlog.{Backlog}
 use Rattle.bx_session.specs.declared.journal.Backlog.TheVariants.{Empty}
 use Rattle.bx_session.specs.Beginning.{Beginning, after_going_to, at_offset, begun, changed_if, opened}
 use Rattle.bx_editor.specs.Picture.{scrolled}
-use Rattle.bx_session.specs.Session.{clipboard_if, Session, StoreAfter, StoreState, is_save_byte, stores_by}
+use Rattle.bx_session.specs.Session.{clipboard_if, Session, StoreAfter, StoreState, is_save_press, stores_by}
 use Rattle.bx_session.specs.Session.{text_to_save}
 use Rattle.bx_session.specs.Journal.{HasKept, RecorderState, is_lost, waiting}
 use Rattle.bx_session.specs.Laws.{after_replaying}
 use Rattle.bx_session_laws.specs.Recovery.{FindsNoChange, HasAll, HasBack, IsKnown, IsSettled, JournalsGiveBack, NamesAgree, PastesAlone}
 use Rattle.bx_session_laws.specs.Recovery.{RefusesNoKey, TellsChanges, once_pasted}
-use Rattle.bx_session.specs.Running.{ByteAnswer, FeedsAll, bytes_of}
-use Rattle.bx_session.specs.Feeding.{Feeds, is_applied}
-use Rattle.bx_session.specs.Replaying.{after_all_replayed, after_passed, after_replay, after_replayed, at_replay_end, replayed_on}
+use Rattle.bx_session.specs.Running.{PressAnswer, PressesAll, presses_in}
+use Rattle.bx_session.specs.Inputs.{presses_from, rest_from}
+use Rattle.bx_session.proofs.Typing.{presses_from_both, rest_from_both}
+use Rattle.bx_session.specs.Feeding.{Presses, is_applied}
+use Rattle.bx_session.specs.Replaying.{after_all_replayed, after_passed, after_replayed, after_replayed_press, at_replay_end, replayed_on}
 use Rattle.bx_session_laws.proofs.Alike.{Work, work, after_deeds}
 use Rattle.bx_session_laws.proofs.KeysAlike.{ended_alike, key_alike}
 use Rattle.bx_session_laws.proofs.Deeds.{Knows, Tells, Traces, deeds_know, deeds_tell, knows_text, traced_text}
@@ -38,11 +39,11 @@ use Rattle.bx_session_laws.proofs.Lasting.{Lasting, lasting, having}
 use Rattle.bx_session_laws.proofs.Names.{agree_on}
 use Rattle.bx_session_laws.proofs.SavedAlike.{passed_work, saved_work, stored_kind, stored_work, stores_alike, with_name}
 use Rattle.bx_session.proofs.KeyKinds.{not_storing, quit_stores_nothing, stores}
-use Rattle.bx_session.proofs.Ending.{over, quit_user}
-use Rattle.bx_session_laws.proofs.Recovered.{Follows, Points, PointsAny, PointsByte, PointsOn, all_follow, byte_follows, key_is, serves}
+use Rattle.bx_session.proofs.Ending.{quit_user}
+use Rattle.bx_session_laws.proofs.Recovered.{Follows, Points, PointsAny, PointsPress, PointsOn, all_follow, press_follows, key_is, serves}
 use Rattle.bx_session_laws.proofs.RecoveredParts.{begins_alike, begins_top, ended_back, home_named, over_none}
 use Rattle.bx_session_laws.proofs.TopsAlike.{points_on}
-use Rattle.bx_session.proofs.Leaving.{byte_leaves, editor_after}
+use Rattle.bx_session.proofs.Leaving.{press_leaves, editor_after}
 use Rattle.bx_session.proofs.Replayed.{applies, each-replayed}
 use Rattle.bx_session_laws.proofs.WorkKept.{quit_leaves, quit_works}
 use Rattle.bx_session_laws.proofs.Versions.{version, version_here}
@@ -184,23 +185,21 @@ applied (Err refused.Edit) some = absurd (some refl)
 applied (Err refused.Paint) some = refl
 applied (Err refused.Size) some = refl
 
--- ---- all bytes
+-- ---- all presses
 
 record Agrees (first : List ℕ) (store : StoreState) (s r : Session) : Type 0 where
   pub tells : Tells (work s.editor) (work r.editor)
   pub knows : Knows (IsKnownIn first store) (work s.editor)
 
-byte_agrees : (d : Data) (first : List ℕ) (s r : Session) (store store' : StoreState) (b : ℕ) (a : Result Status Refused) (new : Session) → Follows s r
-    → Agrees first store s r → s.editor.ended ≡ false → a ≢ Err refused.Edit → PointsByte d s r b → Feeds d s store b a new store'
-    → Agrees first store' new (after_replay d r b)
-byte_agrees d first s r store store' b a new before h runs some points feeds =
-    let key = key_after s.rest b in
-    let leaves = byte_leaves d feeds.0 s b a new runs some feeds.2 in
-    let each = applies d r b before.goes_on in
-    let same : (after_replay d r b).editor ≡ after_all_replayed d r.editor (option_to_list key) =
-    each.editor ∙ ap (λ rest. after_all_replayed d r.editor (option_to_list (key_after rest b))) (sym before.rest_is) in
-    let saves = subst (λ yes. StoreAfter (yes && is_save_byte s b) feeds.0 (text_to_save d s.editor) store store') (applied a some) feeds.1 in
-    let kept = subst (λ k. StoreAfter (stores_by s.editor k) feeds.0 (text_to_save d s.editor) store store') (key_is s b runs) saves in record {
+press_agrees : (d : Data) (first : List ℕ) (s r : Session) (store store' : StoreState) (key : Option Key) (a : Result Status Refused) (new : Session)
+    → Follows s r → Agrees first store s r → s.editor.ended ≡ false → a ≢ Err refused.Edit → PointsPress d s r key → Presses d s store key a new store'
+    → Agrees first store' new (after_replayed_press d r key)
+press_agrees d first s r store store' key a new before h runs some points feeds =
+    let leaves = press_leaves d feeds.0 s key a new runs some feeds.2 in
+    let each = applies d r key before.goes_on in
+    let same : (after_replayed_press d r key).editor ≡ after_all_replayed d r.editor (option_to_list key) = each.editor in
+    let saves = subst (λ yes. StoreAfter (yes && is_save_press s key) feeds.0 (text_to_save d s.editor) store store') (applied a some) feeds.1 in
+    let kept = subst (λ k. StoreAfter (stores_by s.editor k) feeds.0 (text_to_save d s.editor) store store') (key_is s key runs) saves in record {
       tells = subst (λ (e : Editor). Tells (work new.editor) (work e)) (sym same)
           (subst (λ (e : Editor). Tells (work e) (work (after_all_replayed d r.editor (option_to_list key)))) (sym leaves.editor)
           (any_tells d feeds.0 s.editor r.editor key before.alone before.names before.lasts points h.tells));
@@ -208,18 +207,18 @@ byte_agrees d first s r store store' b a new before h runs some points feeds =
           (any_knows d feeds.0 first store store' s.editor key before.alone kept h.knows);
     }
 
-all_agree : (d : Data) (first : List ℕ) (s r : Session) (store store' : StoreState) (answered : List ByteAnswer) (new : Session) → Follows s r
-    → Agrees first store s r → (feeds : FeedsAll d s store answered new store') → RefusesNoKey answered
+all_agree : (d : Data) (first : List ℕ) (s r : Session) (store store' : StoreState) (answered : List PressAnswer) (new : Session) → Follows s r
+    → Agrees first store s r → (feeds : PressesAll d s store answered new store') → RefusesNoKey answered
     → FindsNoChange d s store answered new store' feeds → PointsOn d s r store answered new store' feeds
-    → Agrees first store' new (after_replaying d r (bytes_of answered))
+    → Agrees first store' new (after_replaying d r (presses_in answered))
 all_agree d first s r store store' [] new before h feeds none same points =
     subst (λ (x : StoreState). Agrees first x new r) (sym feeds.1) (subst (λ (x : Session). Agrees first store x r) (sym feeds.0) h)
 all_agree d first s r store store' (a ∷ answered) new before h feeds none same points =
     let some = none 0 a (omega arith) in
-    all_agree d first feeds.0 (after_replay d r a.0) feeds.1 store' answered new
-    (byte_follows d s r store feeds.1 a.0 a.1 feeds.0 before feeds.2 some points.0 feeds.3 same.0)
-    (byte_agrees d first s r store feeds.1 a.0 a.1 feeds.0 before h feeds.2 some points.0 feeds.3)
-    feeds.5 (All-tail (λ (x : ByteAnswer). x.1 ≢ Err refused.Edit) a answered none) same.1 points.1
+    all_agree d first feeds.0 (after_replayed_press d r a.0) feeds.1 store' answered new
+    (press_follows d s r store feeds.1 a.0 a.1 feeds.0 before feeds.2 some points.0 feeds.3 same.0)
+    (press_agrees d first s r store feeds.1 a.0 a.1 feeds.0 before h feeds.2 some points.0 feeds.3)
+    feeds.5 (All-tail (λ (x : PressAnswer). x.1 ≢ Err refused.Edit) a answered none) same.1 points.1
 
 -- ---- the start
 
@@ -369,7 +368,6 @@ unsent d all new replayed is h = subst (λ (x : Session). HasBack (once_pasted d
     had_file = h.names.had_file;
     replayed_file = h.names.replayed_file;
   };
-  rest = h.rest;
   goes_on = h.goes_on;
 })
 
@@ -396,19 +394,26 @@ ended_run d first store all new r same h = record {
 }
 
 pub journals_give_back : {J : Type 0} (contents : J → Option (List ℕ)) (failures : J → ℕ) → JournalsGiveBack contents failures
-journals_give_back contents failures d b new store store' reader reader' writer writer' journal journal' bytes run had settled has none same_file seen =
+journals_give_back contents failures d b new store store' reader reader' writer writer' journal journal' bytes rest run had settled has none same_file seen =
     let opened_at = at_offset d b in
-    let replayed = after_replaying d opened_at b.journal in
-    let answered = run.0 in
-    let all = run.3 in
-    let ran = run.4 in
-    let end = after_replaying d replayed (bytes_of answered) in
-    let is : bytes ≡ b.journal ++ bytes_of answered = journal_is contents failures journal journal' b.journal (bytes_of answered) bytes run.5 had has in
-    let whole : after_replaying d opened_at bytes ≡ end = ap (after_replaying d opened_at) is ∙ replaying_more d opened_at b.journal (bytes_of answered) in
+    let presses = presses_from [] b.journal in
+    let replayed = after_replaying d opened_at presses in
+    let typed = run.0 in
+    let answered = run.1 in
+    let all = run.4 in
+    let ran = run.5 in
+    let end = after_replaying d replayed (presses_in answered) in
+    let is : bytes ≡ b.journal ++ typed = journal_is contents failures journal journal' b.journal typed bytes run.6 had has in
+    let whole : after_replaying d opened_at (presses_from [] bytes) ≡ end =
+    ap (λ xs. after_replaying d opened_at (presses_from [] xs)) is
+    ∙ ap (after_replaying d opened_at) (presses_from_both [] b.journal typed)
+    ∙ replaying_more d opened_at presses (presses_from (rest_from [] b.journal) typed)
+    ∙ ap (after_replaying d replayed) (sym ran.presses) in
+    let waits : rest ≡ rest_from [] bytes = ran.waits ∙ sym (ap (rest_from []) is ∙ rest_from_both [] b.journal typed) in
     let same : new.editor ≡ all.editor = ap (λ (x : Session). x.editor) ran.session in
-    let through = replays d b.text opened_at b.journal (starts d b) in
+    let through = replays d b.text opened_at presses (starts d b) in
     let alike = begins_alike d b settled through.goes_on through.named in
-    let on = replays d b.text replayed (bytes_of answered) through in
+    let on = replays d b.text replayed (presses_in answered) through in
     let first : Agrees b.text store (begun d b) replayed = record {
       tells = begins_telling d b.text replayed.editor through.traces settled;
       knows = begins_knowing d b.text store replayed.editor through.traces;
@@ -418,8 +423,9 @@ journals_give_back contents failures d b new store store' reader reader' writer 
     let agree = all_agree d b.text (begun d b) replayed store store' answered all alike first ran.feeds none same_file points in
     let back = ended_back d all end follow in
     let tells = tells_changes d b.text store' all end follow.lasts agree on.traces in (
-      unsent d all new (at_replay_end d (after_replaying d opened_at bytes)) ran.session
+      unsent d all new (at_replay_end d (after_replaying d opened_at (presses_from [] bytes))) ran.session
           (subst (λ (x : Session). HasBack (once_pasted d all) (at_replay_end d x)) (sym whole) back),
       subst (λ (x : Session). TellsChanges b.text store' (once_pasted d new) (at_replay_end d x)) (sym whole)
           (ended_run d b.text store' all new end same tells),
+      waits,
     )

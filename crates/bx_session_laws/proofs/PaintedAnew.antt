@@ -5,8 +5,6 @@ use Rattle.std.proofs.lemmas.List.{append-nil}
 use Rattle.bx_paint.proofs.Few.{same_changes}
 use Rattle.bx_keys.specs.declared.key.Key.{Key}
 use Rattle.bx_keys.specs.declared.key.Key.TheVariants.{Insert, PasteStart}
-use Rattle.bx_keys.specs.Keys.{key_after, rest_after}
-use Rattle.bx_keys.specs.Waiting.{head_of}
 use Rattle.bx_store.specs.declared.store.StoreFault.{StoreFault}
 use Rattle.bx_ucd.specs.Data.{Data}
 use Rattle.bx_editor.specs.declared.scrolling.Scroll.{Scroll}
@@ -18,8 +16,8 @@ use Rattle.bx_editor.specs.Picture.{next_top, picture, top_behind}
 use Rattle.bx_editor.specs.Scrolling.{moved_top}
 use Rattle.bx_view.specs.Top.{follow}
 use Rattle.bx_editor.proofs.TopOnce.{top-stays}
-use Rattle.bx_session.specs.Session.{Session, after_sending, after_spending, at_opening, is_painted, key_of_byte, needs_painting, painted_after}
-use Rattle.bx_session.specs.Session.{painting, picture_of, session_after_any, session_after_key, unpainted_after_byte, unpainted_after_told, with_painting}
+use Rattle.bx_session.specs.Session.{Session, after_sending, at_opening, counted_key, is_painted_press, needs_painting, painted_after}
+use Rattle.bx_session.specs.Session.{painting, picture_of, session_after_any, session_after_key, unpainted_after_press, unpainted_after_told, with_painting}
 use Rattle.bx_session.specs.Session.{scroll_behind, unpainted_with_settings, with_clipboard, with_painting_and_clip, with_painting_by, with_picture}
 use Rattle.bx_session.proofs.KeySizes.{key_goes_on, key_top}
 use Rattle.bx_session.proofs.Tops.{clipboard_unseen, opening_stays}
@@ -85,13 +83,6 @@ twice d s has =
 
 -- ---- changes that leave the picture as it is
 
-spending_at : (ended : Bool) (d : Data) (s : Session) (rest : List ℕ) → StaysPainted d s → StaysPainted d (if ended then s else record s { rest = rest })
-spending_at true d s rest h = h
-spending_at false d s rest h = λ owed. ap (λ (x : Session). record x { rest = rest }) (h owed)
-
-spending_stays : (d : Data) (s : Session) (b : ℕ) → StaysPainted d s → StaysPainted d (after_spending s b)
-spending_stays d s b h = spending_at s.editor.ended d s (head_of (rest_after s.rest b)) h
-
 sending_stays : (d : Data) (s : Session) (count : ℕ) → StaysPainted d s → StaysPainted d (after_sending s count)
 sending_stays d s count h owed =
     let had = shown d s (h owed) in again d (after_sending s count) owed (record { stays = had.stays; painted = had.painted; known = had.known })
@@ -136,14 +127,10 @@ any_shown : (d : Data) (fault : Option StoreFault) (s : Session) (key : Option K
 any_shown d fault s None none runs had = had
 any_shown d fault s (Some key) none runs had = key_shown d fault s key (not_not (needs_no_painting s.editor key) none) runs had
 
-unpainted_shown : (ended : Bool) (d : Data) (fault : Option StoreFault) (s : Session) (b : ℕ) → s.editor.ended ≡ ended
-    → let key = if ended then None else key_after s.rest b in
-    needs_painting s.editor key ≡ false → Shown d s
-    → Shown d (session_after_any d fault (if ended then s else record s { rest = head_of (rest_after s.rest b) }) key)
-unpainted_shown true d fault s b is none had = had
-unpainted_shown false d fault s b is none had =
-    any_shown d fault (record s { rest = head_of (rest_after s.rest b) }) (key_after s.rest b) none is
-    (record { stays = had.stays; painted = had.painted; known = had.known })
+unpainted_shown : (ended : Bool) (d : Data) (fault : Option StoreFault) (s : Session) (key : Option Key) → s.editor.ended ≡ ended
+    → needs_painting s.editor (if ended then None else key) ≡ false → Shown d s → Shown d (session_after_any d fault s (if ended then None else key))
+unpainted_shown true d fault s key is none had = had
+unpainted_shown false d fault s key is none had = any_shown d fault s key none is had
 
 -- ---- every call, whether it succeeds or is refused
 
@@ -151,29 +138,28 @@ neither : (b c : Bool) → (b || c) ≡ false → (b ≡ false) × (c ≡ false)
 neither true c h = absurd (cc h)
 neither false c h = (refl, h)
 
-byte_stays : (paints : Bool) (d : Data) (fault : Option StoreFault) (s : Session) (b : ℕ) → is_painted s b ≡ paints
-    → let key = key_of_byte s b in
-    let u = unpainted_after_byte d fault s b in
-    let new = if paints then painted_after d (scroll_behind s.editor key) u key else u in
+press_stays : (paints : Bool) (d : Data) (fault : Option StoreFault) (s : Session) (key : Option Key) → is_painted_press s key ≡ paints
+    → let counts = counted_key s key in
+    let u = unpainted_after_press d fault s key in
+    let new = if paints then painted_after d (scroll_behind s.editor counts) u counts else u in
     HasRows new.editor → StaysPainted d s → StaysPainted d new
-byte_stays true d fault s b is has h owed =
-    let u = unpainted_after_byte d fault s b in
-    let scroll = scroll_behind s.editor (key_of_byte s b) in
-    let new = painted_after d scroll u (key_of_byte s b) in
+press_stays true d fault s key is has h owed =
+    let u = unpainted_after_press d fault s key in
+    let scroll = scroll_behind s.editor (counted_key s key) in
+    let new = painted_after d scroll u (counted_key s key) in
     let left = after_painting d scroll u None (record { text = has.text; columns = has.columns }) in
     again d new owed (record { stays = left.stays; painted = refl; known = refl })
-byte_stays false d fault s b is has h owed =
-    let both = neither s.painting_owed (needs_painting s.editor (key_of_byte s b)) is in
-    again d (unpainted_after_byte d fault s b) owed (unpainted_shown s.editor.ended d fault s b refl both.1 (shown d s (h both.0)))
+press_stays false d fault s key is has h owed =
+    let both = neither s.painting_owed (needs_painting s.editor (counted_key s key)) is in
+    again d (unpainted_after_press d fault s key) owed (unpainted_shown s.editor.ended d fault s key refl both.1 (shown d s (h both.0)))
 
 pub always_stays : AlwaysStaysPainted
 always_stays = record {
   opening = λ d text height width base has owed.
       again d (at_opening d text height width base) refl
       (record { stays = opening_stays d text height width base has; painted = refl; known = refl });
-  byte = λ d fault s b has h. byte_stays (is_painted s b) d fault s b refl has h;
-  refused_key = spending_stays;
-  owing_byte = λ d fault s b owed. absurd (cc owed);
+  press = λ d fault s key has h. press_stays (is_painted_press s key) d fault s key refl has h;
+  owing_press = λ d fault s key owed. absurd (cc owed);
   told = λ d s height width has owed. twice d (unpainted_after_told s height width) has;
   owing_told = λ d s height width owed. absurd (cc owed);
   replay = λ d s b owed. absurd (cc owed);

@@ -6,8 +6,7 @@ use Rattle.unicode_segmentation.proofs.Computing.{unicode_segmentation}
 use Rattle.unicode_width.proofs.Computing.{unicode_width}
 use Rattle.bx_common.specs.declared.base.Base.TheVariants.{Auto}
 use Rattle.bx_keys.specs.declared.key.Key.{Key}
-use Rattle.bx_keys.specs.declared.key.Key.TheVariants.{Insert, PasteStart, UndoRun}
-use Rattle.bx_keys.specs.Waiting.{keys_from}
+use Rattle.bx_keys.specs.declared.key.Key.TheVariants.{Insert, PasteStart, Undo}
 use Rattle.bx_text.specs.Edits.{Edit, edit_of}
 use Rattle.bx_editor.specs.declared.undo_groups.typing.Typing.{Typing}
 use Rattle.bx_editor.specs.declared.undo_groups.typing.Typing.TheVariants as typings
@@ -15,6 +14,7 @@ use Rattle.bx_editor.specs.Editor.{Editor, at_start}
 use Rattle.bx_editor.specs.Putting.{paste_ended}
 use Rattle.bx_editor.specs.Replay.{at_replay_end}
 use Rattle.bx_editor.proofs.Computed.{tables}
+use Rattle.bx_session.specs.Inputs.{keys_in, presses_from}
 use Rattle.bx_session.specs.Replaying.{after_all_replayed, after_journal}
 use Rattle.bx_session.proofs.Computed.{csi, start}
 use Rattle.bx_session.proofs.Replayed.{keys_in_parts, replays_keys}
@@ -47,7 +47,7 @@ abbrev next_keys : List Key
 next_keys = Insert 0x63 ∷ Insert 0x64 ∷ []
 
 abbrev last_keys : List Key
-last_keys = UndoRun ∷ PasteStart ∷ Insert 0x65 ∷ []
+last_keys = Undo ∷ PasteStart ∷ Insert 0x65 ∷ []
 
 first_typed : after_all_replayed tables (at_start [] 2 20 Auto) first_keys ≡ first_word
 unfolding unicode_segmentation unicode_width digits
@@ -65,18 +65,18 @@ last_left : left (at_replay_end (paste_ended tables (after_all_replayed tables b
 unfolding unicode_segmentation unicode_width digits
 last_left = refl
 
--- `ab cd`, UndoRun, PasteStart, `e`
+-- `ab cd`, Undo, PasteStart, `e`
 abbrev journal : List ℕ
 journal = codes "ab cd" ++ csi (codes "82~") ++ csi (codes "90~") ++ codes "e"
 
-keys_are : keys_from [] journal ≡ first_keys ++ (next_keys ++ last_keys)
+keys_are : keys_in (presses_from [] journal) ≡ first_keys ++ (next_keys ++ last_keys)
 keys_are = refl
 
-pub a_paste_is_over_at_the_end : left (after_journal tables (start [] 2 20) journal).editor ≡ (codes "ab e", [], 0 ∷ 3 ∷ [], typings.Off)
+pub a_paste_is_over_at_the_end : left (after_journal tables (start [] 2 20) (presses_from [] journal)).editor ≡ (codes "ab e", [], 0 ∷ 3 ∷ [], typings.Off)
 a_paste_is_over_at_the_end =
     let opened = at_start [] 2 20 Auto in
     ap (λ (e : Editor). left (at_replay_end (paste_ended tables e)))
-    (replays_keys tables (start [] 2 20) journal refl
+    (replays_keys tables (start [] 2 20) (presses_from [] journal) refl
     ∙ ap (after_all_replayed tables opened) keys_are
     ∙ keys_in_parts tables opened first_keys (next_keys ++ last_keys)
     ∙ ap (λ (e : Editor). after_all_replayed tables e (next_keys ++ last_keys)) first_typed

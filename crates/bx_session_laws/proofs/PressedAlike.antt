@@ -8,7 +8,6 @@ use Rattle.bx_store.specs.declared.store.StoreFault.{StoreFault}
 use Rattle.bx_ucd.specs.Data.{Data}
 use Rattle.bx_view.specs.Moves.{row_home}
 use Rattle.bx_view.specs.declared.moves.Vertical.{Vertical}
-use Rattle.bx_editor.specs.undo_groups.Groups.{goes_on}
 use Rattle.bx_editor.specs.declared.clicks.Extent.{Extent}
 use Rattle.bx_editor.specs.declared.clicks.Extent.TheVariants as extents
 use Rattle.bx_editor.specs.declared.clicks.Pressed.{Pressed}

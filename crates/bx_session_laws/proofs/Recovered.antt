@@ -1,12 +1,10 @@
--- Replayed bytes restore the session.
+-- Replayed presses restore the session.
 use Rattle.std.proofs.Common.{◌≡◌, ℕ, Bool, true, false, not, List, [], ◌∷◌, Option, Some, None, Result, Err, refl, sym, ap, ap₂, subst, ◌∙◌, if◌then◌else◌}
 use Rattle.std.proofs.Common.{arith}
 use Rattle.std.specs.Prelude.{◌≢◌, ◌⊎◌, ◌||◌, ◌&&◌, option_to_list}
 use Rattle.std.proofs.lemmas.List.Elements.{All-tail}
 use Rattle.bx_keys.specs.declared.key.Key.{Key}
 use Rattle.bx_keys.specs.declared.key.Key.TheVariants.{Insert, Quit, Repaint}
-use Rattle.bx_keys.specs.Keys.{key_after, rest_after}
-use Rattle.bx_keys.specs.Waiting.{head_of}
 use Rattle.bx_store.specs.declared.store.StoreFault.{StoreFault}
 use Rattle.bx_ucd.specs.Data.{Data}
 use Rattle.bx_editor.specs.declared.questions.answers.Prompt.{Prompt}
@@ -28,15 +26,15 @@ use Rattle.bx_session.specs.declared.status.Refused.TheVariants as refused
 use Rattle.bx_session.specs.declared.status.Status.{Status}
 use Rattle.bx_session.specs.Laws.{after_replaying}
 use Rattle.bx_session.specs.Parts.{is_quit}
-use Rattle.bx_session.specs.Running.{ByteAnswer, FeedsAll, bytes_of}
+use Rattle.bx_session.specs.Running.{PressAnswer, PressesAll, presses_in}
 use Rattle.bx_editor.specs.Picture.{scrolled}
-use Rattle.bx_session.specs.Session.{StoreState, Session, is_save_byte, key_of_byte, stores_by}
-use Rattle.bx_session.specs.Feeding.{Feeds}
-use Rattle.bx_session.specs.Replaying.{after_all_replayed, after_replay, after_replayed, replayed_on, scrolled_on}
+use Rattle.bx_session.specs.Session.{StoreState, Session, counted_key, is_save_press, stores_by}
+use Rattle.bx_session.specs.Feeding.{Presses}
+use Rattle.bx_session.specs.Replaying.{after_all_replayed, after_replayed, after_replayed_press, replayed_on, scrolled_on}
 use Rattle.bx_session.proofs.Ending.{over, quit_user}
 use Rattle.bx_session.proofs.KeyKinds.{is_other, not_quitting, not_storing, stores}
 use Rattle.bx_session.proofs.KeySizes.{user_pasted}
-use Rattle.bx_session.proofs.Leaving.{byte_leaves, editor_after}
+use Rattle.bx_session.proofs.Leaving.{press_leaves, editor_after}
 use Rattle.bx_session.proofs.Replayed.{applies, each-replayed, quit_replayed}
 use Rattle.bx_session_laws.specs.Recovery.{FindsNoChange, NamesAgree, PastesAlone, RefusesNoKey, finds_change, rests_on_top}
 use Rattle.bx_session_laws.proofs.Alike.{Work, work}
@@ -247,37 +245,34 @@ any_keeps_alone d fault e (Some key) alone = keeps_alone d fault e key alone
 
 pub record Follows (s r : Session) : Type 0 where
   pub lasts : lasting s.editor ≡ lasting r.editor
-  pub rest_is : s.rest ≡ r.rest
   pub goes_on : r.editor.ended ≡ false
   pub one : HasOnePrompt s.editor
   pub alone : PastesAlone s.editor
   pub names : NamesAgree s.editor r.editor
 
--- the byte's key points as the replay's does
-abbrev pub PointsByte : Data → Session → Session → ℕ → Type 0
-PointsByte d s r b = PointsAny s.editor.top (scrolled d r.editor).top (key_after s.rest b)
+-- the press's key points as the replay's does
+abbrev pub PointsPress : Data → Session → Session → Option Key → Type 0
+PointsPress d s r key = PointsAny s.editor.top (scrolled d r.editor).top key
 
--- a save that the byte makes finds no change of the file
-abbrev pub UnchangedByte : Option StoreFault → Session → ℕ → Type 0
-UnchangedByte fault s b = is_save_byte s b ≡ true → finds_change fault ≡ false
+-- a save that the press makes finds no change of the file
+abbrev pub UnchangedPress : Option StoreFault → Session → Option Key → Type 0
+UnchangedPress fault s key = is_save_press s key ≡ true → finds_change fault ≡ false
 
 key_here : (ended : Bool) (key : Option Key) → ended ≡ false → (if ended then None else key) ≡ key
 key_here true key h = absurd (cc h)
 key_here false key h = refl
 
-pub key_is : (s : Session) (b : ℕ) → s.editor.ended ≡ false → key_of_byte s b ≡ key_after s.rest b
-key_is s b runs = key_here s.editor.ended (key_after s.rest b) runs
+pub key_is : (s : Session) (key : Option Key) → s.editor.ended ≡ false → counted_key s key ≡ key
+key_is s key runs = key_here s.editor.ended key runs
 
-pub byte_follows : (d : Data) (s r : Session) (store store' : StoreState) (b : ℕ) (a : Result Status Refused) (new : Session) → Follows s r
-    → s.editor.ended ≡ false → a ≢ Err refused.Edit → PointsByte d s r b → (feeds : Feeds d s store b a new store') → UnchangedByte feeds.0 s b
-    → Follows new (after_replay d r b)
-byte_follows d s r store store' b a new before runs some points feeds unchanged =
-    let key = key_after s.rest b in
-    let leaves = byte_leaves d feeds.0 s b a new runs some feeds.2 in
-    let each = applies d r b before.goes_on in
-    let same : UnchangedAny feeds.0 s.editor key = subst (UnchangedAny feeds.0 s.editor) (key_is s b runs) unchanged in
-    let is : (after_replay d r b).editor ≡ after_all_replayed d r.editor (option_to_list key) =
-    each.editor ∙ ap (λ rest. after_all_replayed d r.editor (option_to_list (key_after rest b))) (sym before.rest_is) in
+pub press_follows : (d : Data) (s r : Session) (store store' : StoreState) (key : Option Key) (a : Result Status Refused) (new : Session) → Follows s r
+    → s.editor.ended ≡ false → a ≢ Err refused.Edit → PointsPress d s r key → (feeds : Presses d s store key a new store')
+    → UnchangedPress feeds.0 s key → Follows new (after_replayed_press d r key)
+press_follows d s r store store' key a new before runs some points feeds unchanged =
+    let leaves = press_leaves d feeds.0 s key a new runs some feeds.2 in
+    let each = applies d r key before.goes_on in
+    let same : UnchangedAny feeds.0 s.editor key = subst (UnchangedAny feeds.0 s.editor) (key_is s key runs) unchanged in
+    let is : (after_replayed_press d r key).editor ≡ after_all_replayed d r.editor (option_to_list key) = each.editor in
     let names = any_names d feeds.0 s.editor r.editor key before.alone before.names before.lasts points in
     let one = any_keeps_one d feeds.0 s.editor key before.one in
     let alone = any_keeps_alone d feeds.0 s.editor key before.alone in
@@ -285,7 +280,6 @@ byte_follows d s r store store' b a new before runs some points feeds unchanged 
       lasts = ap lasting leaves.editor
           ∙ any_lasts d feeds.0 s.editor r.editor key before.alone before.names before.lasts points same
           ∙ ap lasting (sym is);
-      rest_is = leaves.rest_is ∙ ap (λ rest. head_of (rest_after rest b)) before.rest_is ∙ sym each.rest_is;
       goes_on = each.goes_on;
       one = subst HasOnePrompt (sym leaves.editor) one;
       alone = subst PastesAlone (sym leaves.editor) alone;
@@ -295,18 +289,18 @@ byte_follows d s r store store' b a new before runs some points feeds unchanged 
           refl refl names);
     }
 
--- each byte's does
-abbrev pub PointsOn : (d : Data) (s r : Session) (store : StoreState) (answered : List ByteAnswer) (new : Session) (store' : StoreState)
-    → FeedsAll d s store answered new store' → Type 0
+-- each press's does
+abbrev pub PointsOn : (d : Data) (s r : Session) (store : StoreState) (answered : List PressAnswer) (new : Session) (store' : StoreState)
+    → PressesAll d s store answered new store' → Type 0
 PointsOn d s r store [] new store' feeds = Unit {0}
 PointsOn d s r store (a ∷ answered) new store' feeds =
-    PointsByte d s r a.0 × PointsOn d feeds.0 (after_replay d r a.0) feeds.1 answered new store' feeds.5
+    PointsPress d s r a.0 × PointsOn d feeds.0 (after_replayed_press d r a.0) feeds.1 answered new store' feeds.5
 
-pub all_follow : (d : Data) (s r : Session) (store store' : StoreState) (answered : List ByteAnswer) (new : Session) → Follows s r
-    → (feeds : FeedsAll d s store answered new store') → RefusesNoKey answered → FindsNoChange d s store answered new store' feeds
-    → PointsOn d s r store answered new store' feeds → Follows new (after_replaying d r (bytes_of answered))
+pub all_follow : (d : Data) (s r : Session) (store store' : StoreState) (answered : List PressAnswer) (new : Session) → Follows s r
+    → (feeds : PressesAll d s store answered new store') → RefusesNoKey answered → FindsNoChange d s store answered new store' feeds
+    → PointsOn d s r store answered new store' feeds → Follows new (after_replaying d r (presses_in answered))
 all_follow d s r store store' [] new before feeds none same points = subst (λ (x : Session). Follows x r) (sym feeds.0) before
 all_follow d s r store store' (a ∷ answered) new before feeds none same points =
-    all_follow d feeds.0 (after_replay d r a.0) feeds.1 store' answered new
-    (byte_follows d s r store feeds.1 a.0 a.1 feeds.0 before feeds.2 (none 0 a (omega arith)) points.0 feeds.3 same.0)
-    feeds.5 (All-tail (λ (x : ByteAnswer). x.1 ≢ Err refused.Edit) a answered none) same.1 points.1
+    all_follow d feeds.0 (after_replayed_press d r a.0) feeds.1 store' answered new
+    (press_follows d s r store feeds.1 a.0 a.1 feeds.0 before feeds.2 (none 0 a (omega arith)) points.0 feeds.3 same.0)
+    feeds.5 (All-tail (λ (x : PressAnswer). x.1 ≢ Err refused.Edit) a answered none) same.1 points.1

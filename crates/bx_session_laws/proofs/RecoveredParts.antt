@@ -1,5 +1,5 @@
 -- What a replay gives back, part for part, in its middle and at its end.
-use Rattle.std.proofs.Common.{◌≡◌, ℕ, Bool, true, false, not, ◌&&◌, List, Option, Some, None, refl, sym, ap, subst, ◌∙◌, arith, if◌then◌else◌}
+use Rattle.std.proofs.Common.{[], ◌≡◌, ℕ, Bool, true, false, not, ◌&&◌, List, Option, Some, None, refl, sym, ap, subst, ◌∙◌, arith, if◌then◌else◌}
 use Rattle.std.specs.Prelude.{is_some}
 use Rattle.std.proofs.lemmas.Bool.Decides.{nat_tests}
 use Rattle.bx_common.specs.declared.base.Base.{Base}
@@ -24,12 +24,12 @@ use Rattle.bx_editor.specs.Settings as editor_settings
 use Rattle.bx_editor.specs.declared.search_state.SearchState.{SearchState}
 use Rattle.bx_editor.proofs.TopOnce.{top-stays}
 use Rattle.bx_session.specs.Beginning.{Beginning, after_going_to, at_offset, begun, changed_if, opened}
-use Rattle.bx_session.specs.Session.{clipboard_if, Session, StoreState, after_spending, at_opening, is_save_byte, key_of_byte, stores_by, unpainted_with_settings}
+use Rattle.bx_session.specs.Session.{clipboard_if, Session, StoreState, at_opening, counted_key, is_save_press, stores_by, unpainted_with_settings}
 use Rattle.bx_session.specs.Session.{with_settings}
 use Rattle.bx_session.specs.Laws.{after_journal, after_replaying}
-use Rattle.bx_session.specs.Running.{ByteAnswer, FeedsAll, bytes_of}
-use Rattle.bx_session.specs.Replaying.{after_all_replayed, after_passed, after_replay, after_replayed_key, at_replay_end, session_replayed_on, session_scrolled}
-use Rattle.bx_session.proofs.Bytes.{spent_editor}
+use Rattle.bx_session.specs.Running.{PressAnswer, PressesAll, presses_in}
+use Rattle.bx_session.specs.Inputs.{presses_from}
+use Rattle.bx_session.specs.Replaying.{after_all_replayed, after_passed, after_replayed_key, after_replayed_press, at_replay_end, session_replayed_on, session_scrolled}
 use Rattle.bx_session.proofs.Ending.{over, stored_session}
 use Rattle.bx_session.proofs.Input.{keys_of_input}
 use Rattle.bx_session.proofs.KeySizes.{ended_goes_on, ended_top}
@@ -110,7 +110,6 @@ same_lasts s r h =
 follows : (s r : Session) → HasBackMidway s r → Follows s r
 follows s r h = record {
   lasts = same_lasts s r h;
-  rest_is = sym h.parts.rest;
   goes_on = h.parts.goes_on;
   one = h.one;
   alone = h.alone;
@@ -141,7 +140,6 @@ has_back s r h = record {
     auto_indent = ap (λ (l : Lasting). l.auto_indent) (sym h.lasts);
     tab_width = ap (λ (l : Lasting). l.tab_width) (sym h.lasts);
     names = h.names;
-    rest = sym h.rest_is;
     goes_on = h.goes_on;
   };
   search_state = ap (λ (l : Lasting). l.search_state) (sym h.lasts);
@@ -198,7 +196,6 @@ ended_back d s r h =
       auto_indent = ap (λ (l : Lasting). l.auto_indent) same;
       tab_width = ap (λ (l : Lasting). l.tab_width) same;
       names = scrolled_names d (paste_ended d s.editor) (replay.at_replay_end (paste_ended d r.editor)) (over_names d s.editor r.editor h.names);
-      rest = sym h.rest_is;
       goes_on = (ended_goes_on d r.editor).0 ∙ h.goes_on;
     }
 
@@ -254,10 +251,8 @@ key_settles d s (Some key) h =
     let left = (session_replayed_on d from key).editor in
     settled_by left (moved_top d left left.top (scroll_of s.editor key)) passed
 
-save_settles : (d : Data) (s : Session) (byte : ℕ) → is_save_byte s byte ≡ true → IsSettled (after_replay d s byte).editor
-save_settles d s byte h =
-    key_settles d (after_spending s byte) (key_of_byte s byte)
-    (ap (λ (e : Editor). stores_by e (key_of_byte s byte)) (spent_editor s byte) ∙ h)
+save_settles : (d : Data) (s : Session) (key : Option Key) → is_save_press s key ≡ true → IsSettled (after_replayed_press d s key).editor
+save_settles d s key h = key_settles d s (counted_key s key) h
 
 -- where a journal leaves the editor settled, the end of the replay and the painting make no difference
 end_lasts : (e : Editor) → IsSettled e → lasting (replay.at_replay_end e) ≡ lasting e
@@ -270,29 +265,28 @@ end_lasts e settled =
 settled_lasts : (d : Data) (e : Editor) → IsSettled e → lasting (replay.at_replay_end (paste_ended d e)) ≡ lasting e
 settled_lasts d e settled = ap (λ (x : Editor). lasting (replay.at_replay_end x)) (over_none d e settled.pasted) ∙ end_lasts e settled
 
-begun_names : (d : Data) (b : Beginning) → let e = (after_replaying d (at_offset d b) b.journal).editor in IsNamed e → NamesAgree (begun d b).editor e
+begun_names : (d : Data) (b : Beginning) → let e = (after_replaying d (at_offset d b) (presses_from [] b.journal)).editor in IsNamed e → NamesAgree (begun d b).editor e
 begun_names d b named =
-    let e = (after_replaying d (at_offset d b) b.journal).editor in
+    let e = (after_replaying d (at_offset d b) (presses_from [] b.journal)).editor in
     let own : NamesAgree e e = record { nameless = refl; name = λ off. (off, refl); had_file = named; replayed_file = named } in
     agree_on e e (begun d b).editor e (ended_name d e) (ended_home d e) refl refl own
 
 -- a run begins with what the replay of its journal has
-pub begins_alike : (d : Data) (b : Beginning) → let replayed = after_replaying d (at_offset d b) b.journal in
+pub begins_alike : (d : Data) (b : Beginning) → let replayed = after_replaying d (at_offset d b) (presses_from [] b.journal) in
     IsSettled replayed.editor → replayed.editor.ended ≡ false → IsNamed replayed.editor → Follows (begun d b) replayed
 begins_alike d b settled goes_on named = record {
-  lasts = settled_lasts d (after_replaying d (at_offset d b) b.journal).editor settled;
-  rest_is = refl;
+  lasts = settled_lasts d (after_replaying d (at_offset d b) (presses_from [] b.journal)).editor settled;
   goes_on = goes_on;
   one = λ asked. refl;
-  alone = λ some. absurd (some (over d (after_replaying d (at_offset d b) b.journal).editor));
+  alone = λ some. absurd (some (over d (after_replaying d (at_offset d b) (presses_from [] b.journal)).editor));
   names = begun_names d b named;
 }
 
 -- and shows the row first that a painting of the replay would
-pub begins_top : (d : Data) (b : Beginning) → let replayed = after_replaying d (at_offset d b) b.journal in
+pub begins_top : (d : Data) (b : Beginning) → let replayed = after_replaying d (at_offset d b) (presses_from [] b.journal) in
     IsSettled replayed.editor → HasRows (begun d b).editor → HasTop d (begun d b) replayed
 begins_top d b settled has =
-    let e = (after_replaying d (at_offset d b) b.journal).editor in
+    let e = (after_replaying d (at_offset d b) (presses_from [] b.journal)).editor in
     let x : Editor = paste_ended d e in
     let end : Editor = replay.at_replay_end x in
     let rows : HasRows end = record { text = has.text; columns = has.columns } in
@@ -332,12 +326,12 @@ set_names e settings = λ home. home_named settings.name home
 own_names : (e : Editor) → IsNamed e → NamesAgree e e
 own_names e named = record { nameless = refl; name = λ off. (off, refl); had_file = named; replayed_file = named }
 
-gives : (d : Data) (s : Session) (store store' : StoreState) (answered : List ByteAnswer) (new : Session) → Follows s s → (HasRows s.editor → HasTop d s s)
-    → (feeds : FeedsAll d s store answered new store') → RefusesNoKey answered → FindsNoChange d s store answered new store' feeds
-    → PointsAsSeen d s store answered new store' feeds → HasBack (once_pasted d new) (after_journal d s (bytes_of answered))
+gives : (d : Data) (s : Session) (store store' : StoreState) (answered : List PressAnswer) (new : Session) → Follows s s → (HasRows s.editor → HasTop d s s)
+    → (feeds : PressesAll d s store answered new store') → RefusesNoKey answered → FindsNoChange d s store answered new store' feeds
+    → PointsAsSeen d s store answered new store' feeds → HasBack (once_pasted d new) (after_journal d s (presses_in answered))
 gives d s store store' answered new same first feeds none unchanged seen =
     let points = points_on d s s store store' answered new same first feeds none unchanged seen in
-    ended_back d new (after_replaying d s (bytes_of answered)) (all_follow d s s store store' answered new same feeds none unchanged points)
+    ended_back d new (after_replaying d s (presses_in answered)) (all_follow d s s store store' answered new same feeds none unchanged points)
 
 pub recovery_gives_back : RecoveryGivesBack
 recovery_gives_back = record {
@@ -346,7 +340,6 @@ recovery_gives_back = record {
       let named : IsNamed s.editor = λ home. refl in
       let same : Follows s s = record {
         lasts = refl;
-        rest_is = refl;
         goes_on = refl;
         one = λ asked. refl;
         alone = λ some. (refl, refl);
@@ -358,7 +351,6 @@ recovery_gives_back = record {
       let named : IsNamed s.editor = λ home. home_named settings.name home in
       let same : Follows s s = record {
         lasts = refl;
-        rest_is = refl;
         goes_on = refl;
         one = λ asked. refl;
         alone = λ some. (refl, refl);
@@ -368,7 +360,7 @@ recovery_gives_back = record {
   keeps_up = λ d old replayed store store' answered new h feeds none unchanged top seen.
       let before = follows old replayed h in
       let points = points_on d old replayed store store' answered new before (λ has. top) feeds none unchanged seen in
-      has_back new (after_replaying d replayed (bytes_of answered)) (all_follow d old replayed store store' answered new before feeds none unchanged points);
+      has_back new (after_replaying d replayed (presses_in answered)) (all_follow d old replayed store store' answered new before feeds none unchanged points);
   keeps_top = λ d old replayed store store' answered new h feeds none unchanged top paints have.
       (seen_on d old replayed store store' answered new (follows old replayed h) feeds none unchanged paints top have).1;
   ends = λ d new replayed h. ended_back d new replayed (follows new replayed h);
@@ -376,8 +368,8 @@ recovery_gives_back = record {
   save_settles = save_settles;
   applies_all = λ d text height width base bytes.
       let s = at_opening d text height width base in
-      replays_keys d s bytes refl ∙ ap (after_all_replayed d s.editor) (keys_of_input bytes);
+      replays_keys d s (presses_from [] bytes) refl ∙ ap (after_all_replayed d s.editor) (keys_of_input bytes);
   applies_all_set = λ d text height width base settings bytes.
       let s = with_settings d (at_opening d text height width base) settings in
-      replays_keys d s bytes refl ∙ ap (after_all_replayed d s.editor) (keys_of_input bytes);
+      replays_keys d s (presses_from [] bytes) refl ∙ ap (after_all_replayed d s.editor) (keys_of_input bytes);
 }

@@ -18,12 +18,13 @@ use Rattle.bx_editor.specs.Editor.{Editor}
 use Rattle.bx_editor.proofs.Computed.{tables}
 use Rattle.bx_editor.specs.Settings.{plain}
 use Rattle.bx_session.specs.Session.{Session, with_settings}
+use Rattle.bx_session.specs.Inputs.{presses_from}
 use Rattle.bx_session.specs.Replaying.{after_journal}
 use Rattle.bx_session.proofs.Computed.{after, start, csi}
 
 -- after a journal over this text, and after more bytes that a session takes then
 abbrev over : List ℕ → List ℕ → Session
-over text bytes = after_journal tables (start text 2 20) bytes
+over text bytes = after_journal tables (start text 2 20) (presses_from [] bytes)
 
 abbrev more : Session → List ℕ → Editor
 more s bytes = (after s bytes).editor
@@ -166,7 +167,7 @@ and_an_undo_leads_back = refl
 
 -- a text without a name, opened to work by these settings
 abbrev nameless : List ℕ → Editor
-nameless bytes = (after_journal tables (with_settings tables (start [] 2 40) (record plain { name = Some [] })) bytes).editor
+nameless bytes = (after_journal tables (with_settings tables (start [] 2 40) (record plain { name = Some [] })) (presses_from [] bytes)).editor
 
 abbrev answered : List ℕ → List ℕ × Option (List ℕ) × Bool × Prompt
 answered bytes = let e = nameless bytes in (e.content.text, e.name, e.home, e.prompt)
@@ -184,7 +185,7 @@ an_answer_to_overwrite_is_none_of_the_text = refl
 -- ---- the wheel, over eight rows in a window of three text rows
 
 abbrev rolled : List ℕ → ℕ × ℕ
-rolled bytes = let e = (after_journal tables (start (codes "1\n2\n3\n4\n5\n6\n7\n8") 4 10) bytes).editor in (e.top, e.place)
+rolled bytes = let e = (after_journal tables (start (codes "1\n2\n3\n4\n5\n6\n7\n8") 4 10) (presses_from [] bytes)).editor in (e.top, e.place)
 
 pub the_wheel_takes_the_cursor_along : rolled (csi (codes "105~")) ≡ (6, 6)
 unfolding unicode_segmentation unicode_width digits

@@ -4,7 +4,6 @@ use Rattle.std.proofs.Common.{inr, not, if◌then◌else◌}
 use Rattle.std.specs.Prelude.{◌&&◌, is_some, option_to_list}
 use Rattle.bx_keys.specs.declared.key.Key.{Key}
 use Rattle.bx_keys.specs.declared.key.Key.TheVariants.{Quit, Save}
-use Rattle.bx_keys.specs.Keys.{key_after}
 use Rattle.bx_ucd.specs.Data.{Data}
 use Rattle.bx_editor.specs.declared.questions.answers.Prompt.{Prompt}
 use Rattle.bx_editor.specs.declared.questions.answers.Prompt.TheVariants as prompts
@@ -19,7 +18,7 @@ use Rattle.bx_editor.specs.Picture.{scrolled}
 use Rattle.bx_session.specs.Session.{Session}
 use Rattle.bx_session.specs.Laws.{after_replaying}
 use Rattle.bx_session_laws.specs.Recovery.{IsNamed, PastesAlone}
-use Rattle.bx_session.specs.Replaying.{after_all_replayed, after_passed, after_replay, after_replayed, replayed_on}
+use Rattle.bx_session.specs.Replaying.{after_all_replayed, after_passed, after_replayed, after_replayed_press, replayed_on}
 use Rattle.bx_session_laws.proofs.Alike.{Work, work}
 use Rattle.bx_session_laws.proofs.KeysAlike.{ended_alike, key_alike}
 use Rattle.bx_session_laws.proofs.Deeds.{Traces, deeds_trace}
@@ -159,18 +158,18 @@ pub record Replays (first : List ℕ) (new : Session) : Type 0 where
   pub alone : PastesAlone new.editor
   pub named : IsNamed new.editor
 
-pub replays : (d : Data) (first : List ℕ) (s : Session) (bs : List ℕ) → Replays first s → Replays first (after_replaying d s bs)
+pub replays : (d : Data) (first : List ℕ) (s : Session) (presses : List (Option Key)) → Replays first s → Replays first (after_replaying d s presses)
 replays d first s [] h = h
-replays d first s (b ∷ bs) h =
-    let each = applies d s b h.goes_on in
-    let key = key_after s.rest b in
-    replays d first (after_replay d s b) bs (record {
+replays d first s (key ∷ presses) h =
+    let each = applies d s key h.goes_on in
+    replays d first (after_replayed_press d s key) presses (record {
       goes_on = each.goes_on;
       traces = subst (λ (e : Editor). Traces first (work e)) (sym each.editor) (any_traces d first s.editor key h.alone h.traces);
       alone = subst PastesAlone (sym each.editor) (any_alone d s.editor key h.alone);
       named = subst IsNamed (sym each.editor) (any_named d s.editor key h.alone h.named);
     })
 
-pub replaying_more : (d : Data) (s : Session) (bs more : List ℕ) → after_replaying d s (bs ++ more) ≡ after_replaying d (after_replaying d s bs) more
+pub replaying_more : (d : Data) (s : Session) (presses more : List (Option Key))
+    → after_replaying d s (presses ++ more) ≡ after_replaying d (after_replaying d s presses) more
 replaying_more d s [] more = refl
-replaying_more d s (b ∷ bs) more = replaying_more d (after_replay d s b) bs more
+replaying_more d s (key ∷ presses) more = replaying_more d (after_replayed_press d s key) presses more

@@ -5,8 +5,6 @@ use Rattle.std.specs.Prelude.{◌≢◌, ◌||◌, ◌&&◌, is_some, option_to_
 use Rattle.std.proofs.lemmas.List.Elements.{All-head, All-tail}
 use Rattle.bx_keys.specs.declared.key.Key.{Key}
 use Rattle.bx_keys.specs.declared.key.Key.TheVariants.{Insert, PasteStart}
-use Rattle.bx_keys.specs.Keys.{key_after, rest_after}
-use Rattle.bx_keys.specs.Waiting.{keys_from, head_of}
 use Rattle.bx_store.specs.declared.store.StoreFault.{StoreFault}
 use Rattle.bx_ucd.specs.Data.{Data}
 use Rattle.bx_editor.specs.declared.questions.answers.Prompt.{Prompt}
@@ -28,16 +26,17 @@ use Rattle.bx_session.specs.declared.status.Refused.{Refused}
 use Rattle.bx_session.specs.declared.status.Refused.TheVariants as refused
 use Rattle.bx_session.specs.declared.status.Status.{Status}
 use Rattle.bx_session.specs.Laws.{after_replaying}
-use Rattle.bx_session.specs.Running.{ByteAnswer, FeedsAll, bytes_of}
-use Rattle.bx_session.specs.Session.{StoreState, Session, after_byte, needs_painting, painted_after, scroll_behind, session_after_any}
-use Rattle.bx_session.specs.Feeding.{Feeds}
-use Rattle.bx_session.specs.Replaying.{after_all_replayed, after_replay, replayed_on}
+use Rattle.bx_session.specs.Running.{PressAnswer, PressesAll, presses_in}
+use Rattle.bx_session.specs.Inputs.{keys_in}
+use Rattle.bx_session.specs.Session.{StoreState, Session, needs_painting, painted_after, scroll_behind, session_after_any}
+use Rattle.bx_session.specs.Session as sessions
+use Rattle.bx_session.specs.Feeding.{Presses}
+use Rattle.bx_session.specs.Replaying.{after_all_replayed, after_replayed_press, replayed_on}
 use Rattle.bx_session.proofs.KeySizes.{key_top}
-use Rattle.bx_session.proofs.Leaving.{byte_leaves}
 use Rattle.bx_session.proofs.Replayed.{applies}
 use Rattle.bx_session_laws.specs.Recovery.{FindsNoChange, HasTop, HaveRows, PastesAlone, PointsAsSeen, RefusesNoKey, RefusesNoPainting, rests_on_top}
 use Rattle.bx_session_laws.proofs.Lasting.{Lasting, lasting, having}
-use Rattle.bx_session_laws.proofs.Recovered.{Follows, PointsAny, PointsByte, PointsOn, UnchangedAny, UnchangedByte, any_lasts, byte_follows, key_is}
+use Rattle.bx_session_laws.proofs.Recovered.{Follows, PointsAny, PointsPress, PointsOn, UnchangedAny, UnchangedPress, any_lasts, press_follows, key_is}
 use Rattle.bx_session_laws.proofs.TopsKept.{replayed_top}
 
 -- ---- scrolling
@@ -97,7 +96,7 @@ any_fault d fault e key h = absurd (cc (both (is_some e.pasted) false h))
 pub unseen : (d : Data) (fault : Option StoreFault) (e : Editor) (key : Key) → needs_no_painting e key ≡ true → LooksAs d e (after_key d fault e key)
 unseen d fault e key h = subst (LooksAs d e) (any_fault d fault e key h) (paste-is-unseen d e key h)
 
--- ---- a byte
+-- ---- a press
 
 -- the row shown first, where the replay has this editor
 abbrev TopIs : Data → Session → Editor → Type 0
@@ -169,68 +168,55 @@ module _ (d : Data) (fault : Option StoreFault) (s r : Session) (follows : Follo
             ∙ looks.top s.editor.top ∙ stays has ∙ sym (key_top d fault s.editor key),
       )
 
-byte_at : (ended : Bool) (d : Data) (fault : Option StoreFault) (s r : Session) (b : ℕ) → ended ≡ false → Follows s r
-    → s.editor.ended ≡ false → TopIs d s r.editor → HasRows s.editor → UnchangedAny fault s.editor (key_after s.rest b)
-    → (after_all_replayed d r.editor (option_to_list (key_after s.rest b))).ended ≡ false
-    → let key = if ended then None else key_after s.rest b in
-    let new = session_after_any d fault (if ended then s else record s { rest = head_of (rest_after s.rest b) }) key in
-    TopIs d (if s.painting_owed || needs_painting s.editor key then painted_after d (scroll_behind s.editor key) new key else new)
-    (after_all_replayed d r.editor (option_to_list (key_after s.rest b)))
-byte_at true d fault s r b is follows runs had has same over = absurd (cc is)
-byte_at false d fault s r b is follows runs had has same over =
-    let key = key_after s.rest b in
-    let spent : Session = record s { rest = head_of (rest_after s.rest b) } in
-    let also : Follows spent (record r { rest = spent.rest }) = record {
-      lasts = follows.lasts;
-      rest_is = refl;
-      goes_on = follows.goes_on;
-      one = follows.one;
-      alone = follows.alone;
-      names = follows.names;
-    } in
-    key_leaves d fault spent (record r { rest = spent.rest }) also runs had key (s.painting_owed || needs_painting s.editor key) refl has same over
+press_at : (ended : Bool) (d : Data) (fault : Option StoreFault) (s r : Session) (key : Option Key) → ended ≡ false → Follows s r
+    → s.editor.ended ≡ false → TopIs d s r.editor → HasRows s.editor → UnchangedAny fault s.editor key
+    → (after_all_replayed d r.editor (option_to_list key)).ended ≡ false
+    → let counts = if ended then None else key in
+    let new = session_after_any d fault s counts in
+    TopIs d (if s.painting_owed || needs_painting s.editor counts then painted_after d (scroll_behind s.editor counts) new counts else new)
+    (after_all_replayed d r.editor (option_to_list key))
+press_at true d fault s r key is follows runs had has same over = absurd (cc is)
+press_at false d fault s r key is follows runs had has same over =
+    key_leaves d fault s r follows runs had key (s.painting_owed || needs_painting s.editor key) refl has same over
 
 -- the editor of a replay
 with_editor : (d : Data) (had r : Session) (e : Editor) → r.editor ≡ e → TopIs d had e → HasTop d had r
 with_editor d had r e is h =
     record { painted = h.0; top = λ on. ap (λ (x : Editor). (scrolled d x).top) is ∙ h.1 on }
 
-byte_top : (d : Data) (s r : Session) (store store' : StoreState) (b : ℕ) (a : Result Status Refused) (new : Session) → Follows s r
+press_top : (d : Data) (s r : Session) (store store' : StoreState) (key : Option Key) (a : Result Status Refused) (new : Session) → Follows s r
     → s.editor.ended ≡ false → a ≢ Err refused.Edit → a ≢ Err refused.Paint → HasTop d s r → HasRows s.editor
-    → (feeds : Feeds d s store b a new store') → UnchangedByte feeds.0 s b → HasTop d new (after_replay d r b)
-byte_top d s r store store' b (Ok status) new before runs some paints had has feeds unchanged =
+    → (feeds : Presses d s store key a new store') → UnchangedPress feeds.0 s key → HasTop d new (after_replayed_press d r key)
+press_top d s r store store' key (Ok status) new before runs some paints had has feeds unchanged =
     let fault = feeds.0 in
-    let key = key_after s.rest b in
-    let each = applies d r b before.goes_on in
-    let same : UnchangedAny fault s.editor key = subst (UnchangedAny fault s.editor) (key_is s b runs) unchanged in
-    let is : (after_replay d r b).editor ≡ after_all_replayed d r.editor (option_to_list key) =
-    each.editor ∙ ap (λ rest. after_all_replayed d r.editor (option_to_list (key_after rest b))) (sym before.rest_is) in
-    let over : (after_all_replayed d r.editor (option_to_list key)).ended ≡ false = ap (λ (e : Editor). e.ended) (sym is) ∙ each.goes_on in
-    subst (λ (x : Session). HasTop d x (after_replay d r b)) (sym feeds.2.0)
-    (with_editor d (after_byte d fault s b) (after_replay d r b) (after_all_replayed d r.editor (option_to_list key)) is
-    (byte_at s.editor.ended d fault s r b runs before runs (had.painted, had.top) has same over))
-byte_top d s r store store' b (Err refused.Edit) new before runs some paints had has feeds unchanged = absurd (some refl)
-byte_top d s r store store' b (Err refused.Paint) new before runs some paints had has feeds unchanged = absurd (paints refl)
-byte_top d s r store store' b (Err refused.Size) new before runs some paints had has feeds unchanged = absurd feeds.2
+    let each = applies d r key before.goes_on in
+    let same : UnchangedAny fault s.editor key = subst (UnchangedAny fault s.editor) (key_is s key runs) unchanged in
+    let over : (after_all_replayed d r.editor (option_to_list key)).ended ≡ false = ap (λ (e : Editor). e.ended) (sym each.editor) ∙ each.goes_on in
+    subst (λ (x : Session). HasTop d x (after_replayed_press d r key)) (sym feeds.2.0)
+    (with_editor d (sessions.after_press d fault s key) (after_replayed_press d r key) (after_all_replayed d r.editor (option_to_list key)) each.editor
+    (press_at s.editor.ended d fault s r key runs before runs (had.painted, had.top) has same over))
+press_top d s r store store' key (Err refused.Edit) new before runs some paints had has feeds unchanged = absurd (some refl)
+press_top d s r store store' key (Err refused.Paint) new before runs some paints had has feeds unchanged = absurd (paints refl)
+press_top d s r store store' key (Err refused.Size) new before runs some paints had has feeds unchanged = absurd feeds.2
 
--- ---- all bytes
+-- ---- all presses
 
 -- where no painting is refused
-pub seen_on : (d : Data) (s r : Session) (store store' : StoreState) (answered : List ByteAnswer) (new : Session) → Follows s r
-    → (feeds : FeedsAll d s store answered new store') → RefusesNoKey answered → FindsNoChange d s store answered new store' feeds
+pub seen_on : (d : Data) (s r : Session) (store store' : StoreState) (answered : List PressAnswer) (new : Session) → Follows s r
+    → (feeds : PressesAll d s store answered new store') → RefusesNoKey answered → FindsNoChange d s store answered new store' feeds
     → RefusesNoPainting answered → HasTop d s r → HaveRows d s store answered new store' feeds
-    → PointsOn d s r store answered new store' feeds × HasTop d new (after_replaying d r (bytes_of answered))
+    → PointsOn d s r store answered new store' feeds × HasTop d new (after_replaying d r (presses_in answered))
 seen_on d s r store store' [] new before feeds none same paints had have = (tt, subst (λ (x : Session). HasTop d x r) (sym feeds.0) had)
 seen_on d s r store store' (a ∷ answered) new before feeds none same paints had have =
     let runs = feeds.2 in
-    let some = All-head (λ (x : ByteAnswer). x.1 ≢ Err refused.Edit) a answered none in
-    let queued = All-head (λ (x : ByteAnswer). x.1 ≢ Err refused.Paint) a answered paints in
-    let points : PointsByte d s r a.0 = points_any s.editor.top (scrolled d r.editor).top (key_after s.rest a.0) (had.top runs) in
-    let on = seen_on d feeds.0 (after_replay d r a.0) feeds.1 store' answered new
-    (byte_follows d s r store feeds.1 a.0 a.1 feeds.0 before runs some points feeds.3 same.0) feeds.5
-    (All-tail (λ (x : ByteAnswer). x.1 ≢ Err refused.Edit) a answered none) same.1
-    (All-tail (λ (x : ByteAnswer). x.1 ≢ Err refused.Paint) a answered paints)
-    (byte_top d s r store feeds.1 a.0 a.1 feeds.0 before runs some queued had have.0 feeds.3 same.0) have.1 in
+    let some = All-head (λ (x : PressAnswer). x.1 ≢ Err refused.Edit) a answered none in
+    let queued = All-head (λ (x : PressAnswer). x.1 ≢ Err refused.Paint) a answered paints in
+    let points : PointsPress d s r a.0 = points_any s.editor.top (scrolled d r.editor).top a.0 (had.top runs) in
+    let on = seen_on d feeds.0 (after_replayed_press d r a.0) feeds.1 store' answered new
+    (press_follows d s r store feeds.1 a.0 a.1 feeds.0 before runs some points feeds.3 same.0) feeds.5
+    (All-tail (λ (x : PressAnswer). x.1 ≢ Err refused.Edit) a answered none) same.1
+    (All-tail (λ (x : PressAnswer). x.1 ≢ Err refused.Paint) a answered paints)
+    (press_top d s r store feeds.1 a.0 a.1 feeds.0 before runs some queued had have.0 feeds.3 same.0) have.1 in
     ((points, on.0), on.1)
 
 -- where no key rests on the row shown first
@@ -241,24 +227,21 @@ split_points : (top other : ℕ) (key : Option Key) (rest : List Key) → All No
 split_points top other None rest h = (tt, h)
 split_points top other (Some key) rest h = (inl (All-head NotPoint key rest h), All-tail NotPoint key rest h)
 
-none_points : (d : Data) (s r : Session) (store store' : StoreState) (answered : List ByteAnswer) (new : Session)
-    → (feeds : FeedsAll d s store answered new store') → RefusesNoKey answered → All NotPoint (keys_from s.rest (bytes_of answered))
+none_points : (d : Data) (s r : Session) (store store' : StoreState) (answered : List PressAnswer) (new : Session)
+    → (feeds : PressesAll d s store answered new store') → RefusesNoKey answered → All NotPoint (keys_in (presses_in answered))
     → PointsOn d s r store answered new store' feeds
 none_points d s r store store' [] new feeds none keys = tt
 none_points d s r store store' (a ∷ answered) new feeds none keys =
-    let some = All-head (λ (x : ByteAnswer). x.1 ≢ Err refused.Edit) a answered none in
-    let next = head_of (rest_after s.rest a.0) in
-    let both = split_points s.editor.top (scrolled d r.editor).top (key_after s.rest a.0) (keys_from next (bytes_of answered)) keys in
-    let leaves = byte_leaves d feeds.3.0 s a.0 a.1 feeds.0 feeds.2 some feeds.3.2 in (
+    let both = split_points s.editor.top (scrolled d r.editor).top a.0 (keys_in (presses_in answered)) keys in (
       both.0,
-      none_points d feeds.0 (after_replay d r a.0) feeds.1 store' answered new feeds.5
-          (All-tail (λ (x : ByteAnswer). x.1 ≢ Err refused.Edit) a answered none)
-          (subst (λ rest. All NotPoint (keys_from rest (bytes_of answered))) (sym leaves.rest_is) both.1),
+      none_points d feeds.0 (after_replayed_press d r a.0) feeds.1 store' answered new feeds.5
+          (All-tail (λ (x : PressAnswer). x.1 ≢ Err refused.Edit) a answered none)
+          both.1,
     )
 
 -- in both cases; `first`: what a start has whose text and window are sound
-pub points_on : (d : Data) (s r : Session) (store store' : StoreState) (answered : List ByteAnswer) (new : Session) → Follows s r
-    → (HasRows s.editor → HasTop d s r) → (feeds : FeedsAll d s store answered new store') → RefusesNoKey answered
+pub points_on : (d : Data) (s r : Session) (store store' : StoreState) (answered : List PressAnswer) (new : Session) → Follows s r
+    → (HasRows s.editor → HasTop d s r) → (feeds : PressesAll d s store answered new store') → RefusesNoKey answered
     → FindsNoChange d s store answered new store' feeds → PointsAsSeen d s store answered new store' feeds
     → PointsOn d s r store answered new store' feeds
 points_on d s r store store' [] new before first feeds none same seen = tt

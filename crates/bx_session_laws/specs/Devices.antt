@@ -31,10 +31,10 @@ HasWholeLog =
 abbrev pub LogsTellParts : {R J W S : Type 0} → (R → Option (List ℕ)) → (J → Option (List ℕ)) → (J → ℕ) → (W → Option (List ℕ))
     → (S → Option (List ℕ)) → (S → Faults) → Type 0
 LogsTellParts {R} {J} {W} {S} remaining contents failures out saved faults =
-    (d : Data) (limit : ℕ) (result : Result End RunFault) (old new : Session) (device device' : Wired R J W S)
+    (d : Data) (limit : ℕ) (result : Result End RunFault) (rest rest' : List ℕ) (old new : Session) (device device' : Wired R J W S)
     → HasLogged (DidWired remaining contents failures out) (λ from s a to t. ObeyedWired from to) (λ x. store_state saved faults x.store.now)
-    d limit result old new device device' → EndsWith result new None
-    → RunsRecorded contents failures d old new (store_state saved faults device.store.now) (store_state saved faults device'.store.now)
+    d limit result rest rest' old new device device' → EndsWith result new None
+    → RunsRecorded contents failures d rest rest' old new (store_state saved faults device.store.now) (store_state saved faults device'.store.now)
     (remaining device.reader.now) (remaining device'.reader.now) (out device.writer.now) (out device'.writer.now)
     device.recorder.now device'.recorder.now
     × EndsWith result new (remaining device'.reader.now)

@@ -1,9 +1,8 @@
 -- Recovery: what the replay of a session's bytes gives back. `had` and `old` are of the session that was run, `replayed` is the
--- one that replays its bytes. `d` is Unicode's data, `e` an editor, `s` a session, `b` what a session starts with.
+-- one that replays its presses. `d` is Unicode's data, `e` an editor, `s` a session, `b` what a session starts with.
 use Rattle.std.specs.Prelude.{◌≡◌, ◌≢◌, ◌⊎◌, ℕ, Bool, true, false, List, [], ◌∷◌, All, Err, Option, Some, None, IfSome}
 use Rattle.bx_common.specs.declared.base.Base.{Base}
 use Rattle.bx_keys.specs.Keys.{decoding}
-use Rattle.bx_keys.specs.Waiting.{keys_from}
 use Rattle.bx_keys.specs.declared.key.Key.{Key}
 use Rattle.bx_keys.specs.declared.key.Key.TheVariants.{Drag, Point, ScrollBack, ScrollOn}
 use Rattle.bx_store.specs.declared.store.StoreFault.{StoreFault}
@@ -22,18 +21,19 @@ use Rattle.bx_session.specs.declared.journal.Backlog.TheVariants.{Empty}
 use Rattle.bx_session.specs.Beginning.{Beginning, at_offset, begun, unpainted_at}
 use Rattle.bx_session.specs.Journal.{RecorderState, RunsRecorded}
 use Rattle.bx_session.specs.Laws.{after_journal, after_replaying}
-use Rattle.bx_session.specs.Running.{ByteAnswer, FeedsAll, bytes_of}
+use Rattle.bx_session.specs.Running.{PressAnswer, PressesAll, presses_in}
+use Rattle.bx_session.specs.Inputs.{keys_in, presses_from, rest_from}
 use Rattle.bx_editor.specs.Picture.{scrolled}
-use Rattle.bx_session.specs.Session.{StoreState, Session, at_opening, is_save_byte, with_settings}
-use Rattle.bx_session.specs.Replaying.{after_all_replayed, after_replay, at_replay_end}
+use Rattle.bx_session.specs.Session.{StoreState, Session, at_opening, is_save_press, with_settings}
+use Rattle.bx_session.specs.Replaying.{after_all_replayed, after_replayed_press, at_replay_end}
 
 -- no key was refused because memory ran out
-abbrev pub RefusesNoKey : List ByteAnswer → Type 0
-RefusesNoKey answered = All (λ (a : ByteAnswer). a.1 ≢ Err refused.Edit) answered
+abbrev pub RefusesNoKey : List PressAnswer → Type 0
+RefusesNoKey answered = All (λ (a : PressAnswer). a.1 ≢ Err refused.Edit) answered
 
 -- no painting was refused because memory ran out
-abbrev pub RefusesNoPainting : List ByteAnswer → Type 0
-RefusesNoPainting answered = All (λ (a : ByteAnswer). a.1 ≢ Err refused.Paint) answered
+abbrev pub RefusesNoPainting : List PressAnswer → Type 0
+RefusesNoPainting answered = All (λ (a : PressAnswer). a.1 ≢ Err refused.Paint) answered
 
 -- a save failed because another program changed the file
 abbrev pub finds_change : Option StoreFault → Bool
@@ -42,11 +42,11 @@ finds_change (Some fault) = is_changed fault.cause
 
 -- No save found that another program changed the file. Where one does, the session asks whether to overwrite the file. A replay stores
 -- nothing, so it finds nothing: there only the key that whoever keeps a journal writes behind such a save asks.
-abbrev pub FindsNoChange : (d : Data) (old : Session) (store : StoreState) (answered : List ByteAnswer) (new : Session) (store' : StoreState)
-    → FeedsAll d old store answered new store' → Type 0
+abbrev pub FindsNoChange : (d : Data) (old : Session) (store : StoreState) (answered : List PressAnswer) (new : Session) (store' : StoreState)
+    → PressesAll d old store answered new store' → Type 0
 FindsNoChange d old store [] new store' feeds = Unit {0}
 FindsNoChange d old store (a ∷ answered) new store' feeds =
-    (is_save_byte old a.0 ≡ true → finds_change feeds.3.0 ≡ false) × FindsNoChange d feeds.0 feeds.1 answered new store' feeds.5
+    (is_save_press old a.0 ≡ true → finds_change feeds.3.0 ≡ false) × FindsNoChange d feeds.0 feeds.1 answered new store' feeds.5
 
 -- a key whose effect rests on the row that is shown first: it points at a cell of the picture, or moves the view
 abbrev pub rests_on_top : Key → Bool
@@ -56,18 +56,18 @@ rests_on_top ScrollBack = true
 rests_on_top ScrollOn = true
 rests_on_top _ = false
 
--- before each byte the text is UTF-8 and the window has from 1 to 500 columns, as in every session of the code
-abbrev pub HaveRows : (d : Data) (old : Session) (store : StoreState) (answered : List ByteAnswer) (new : Session) (store' : StoreState)
-    → FeedsAll d old store answered new store' → Type 0
+-- before each press the text is UTF-8 and the window has from 1 to 500 columns, as in every session of the code
+abbrev pub HaveRows : (d : Data) (old : Session) (store : StoreState) (answered : List PressAnswer) (new : Session) (store' : StoreState)
+    → PressesAll d old store answered new store' → Type 0
 HaveRows d old store [] new store' feeds = Unit {0}
 HaveRows d old store (a ∷ answered) new store' feeds = HasRows old.editor × HaveRows d feeds.0 feeds.1 answered new store' feeds.5
 
 -- A replay takes the rows of the picture as the session did: no key rests on the row that is shown first, or no painting was refused.
 -- After a refused painting the session's picture stands at the row first at which it stood, and the replay's does not.
-abbrev pub PointsAsSeen : (d : Data) (old : Session) (store : StoreState) (answered : List ByteAnswer) (new : Session) (store' : StoreState)
-    → FeedsAll d old store answered new store' → Type 0
+abbrev pub PointsAsSeen : (d : Data) (old : Session) (store : StoreState) (answered : List PressAnswer) (new : Session) (store' : StoreState)
+    → PressesAll d old store answered new store' → Type 0
 PointsAsSeen d old store answered new store' feeds =
-    All (λ key. rests_on_top key ≡ false) (keys_from old.rest (bytes_of answered))
+    All (λ key. rests_on_top key ≡ false) (keys_in (presses_in answered))
     ⊎ (RefusesNoPainting answered × HaveRows d old store answered new store' feeds)
 
 -- the session once a paste that is under way has ended
@@ -89,8 +89,8 @@ pub record NamesAgree (had replayed : Editor) : Type 0 where
   pub replayed_file : IsNamed replayed
 
 -- A replayed session has, of the session that was run: text with past and future, runs, cursor's place, mark, softness, presses, held
--- bytes, query with what it was sought for, the text that replaces matches, what a paste has brought, direction, kept column, window,
--- settings and unfinished input. It has not ended.
+-- bytes, query with what it was sought for, the text that replaces matches, what a paste has brought, direction, kept column, window
+-- and settings. It has not ended. (What waits of the input is a function of the bytes: `rest_from`.)
 pub record HasBack (had replayed : Session) : Type 0 where
   pub content : replayed.editor.content ≡ had.editor.content
   pub undo_groups : replayed.editor.undo_groups ≡ had.editor.undo_groups
@@ -113,7 +113,6 @@ pub record HasBack (had replayed : Session) : Type 0 where
   pub auto_indent : replayed.editor.auto_indent ≡ had.editor.auto_indent
   pub tab_width : replayed.editor.tab_width ≡ had.editor.tab_width
   pub names : NamesAgree had.editor replayed.editor
-  pub rest : replayed.rest ≡ had.rest
   pub goes_on : replayed.editor.ended ≡ false
 
 -- a paste that goes into the text is alone: nothing is asked or sought
@@ -153,42 +152,42 @@ pub record IsSettled (e : Editor) : Type 0 where
 
 -- the state after a replay of a session's bytes
 pub record RecoveryGivesBack : Type 0 where
-  -- replayed over the opened text, the bytes restore the session, if no key was refused, wherever it saved and even if it quit; a
+  -- replayed over the opened text, the presses restore the session, if no key was refused, wherever it saved and even if it quit; a
   -- paste that is under way ends
-  pub gives_back : (d : Data) (text : List ℕ) (height width : ℕ) (base : Base) (store store' : StoreState) (answered : List ByteAnswer)
-      (new : Session) → let opened = at_opening d text height width base in (feeds : FeedsAll d opened store answered new store') → RefusesNoKey answered
+  pub gives_back : (d : Data) (text : List ℕ) (height width : ℕ) (base : Base) (store store' : StoreState) (answered : List PressAnswer)
+      (new : Session) → let opened = at_opening d text height width base in (feeds : PressesAll d opened store answered new store') → RefusesNoKey answered
       → FindsNoChange d opened store answered new store' feeds → PointsAsSeen d opened store answered new store' feeds
-      → HasBack (once_pasted d new) (after_journal d opened (bytes_of answered))
+      → HasBack (once_pasted d new) (after_journal d opened (presses_in answered))
   -- and so they do under settings, which the replay has too
   pub gives_back_set : (d : Data) (text : List ℕ) (height width : ℕ) (base : Base) (settings : SettingsState) (store store' : StoreState)
-      (answered : List ByteAnswer) (new : Session) → let opened = with_settings d (at_opening d text height width base) settings in
-      (feeds : FeedsAll d opened store answered new store') → RefusesNoKey answered
+      (answered : List PressAnswer) (new : Session) → let opened = with_settings d (at_opening d text height width base) settings in
+      (feeds : PressesAll d opened store answered new store') → RefusesNoKey answered
       → FindsNoChange d opened store answered new store' feeds → PointsAsSeen d opened store answered new store' feeds
-      → HasBack (once_pasted d new) (after_journal d opened (bytes_of answered))
+      → HasBack (once_pasted d new) (after_journal d opened (presses_in answered))
   -- the same from any start at which the two sessions agree, in a search, a question or a paste too: such a start comes after the
   -- cursor was sent to a line, or after a recovery from a journal that leaves the editor settled
-  pub keeps_up : (d : Data) (old replayed : Session) (store store' : StoreState) (answered : List ByteAnswer) (new : Session)
-      → HasBackMidway old replayed → (feeds : FeedsAll d old store answered new store') → RefusesNoKey answered
+  pub keeps_up : (d : Data) (old replayed : Session) (store store' : StoreState) (answered : List PressAnswer) (new : Session)
+      → HasBackMidway old replayed → (feeds : PressesAll d old store answered new store') → RefusesNoKey answered
       → FindsNoChange d old store answered new store' feeds → HasTop d old replayed
-      → PointsAsSeen d old store answered new store' feeds → HasBackMidway new (after_replaying d replayed (bytes_of answered))
+      → PointsAsSeen d old store answered new store' feeds → HasBackMidway new (after_replaying d replayed (presses_in answered))
   -- and, where no painting was refused, with the same row first
-  pub keeps_top : (d : Data) (old replayed : Session) (store store' : StoreState) (answered : List ByteAnswer) (new : Session)
-      → HasBackMidway old replayed → (feeds : FeedsAll d old store answered new store') → RefusesNoKey answered
+  pub keeps_top : (d : Data) (old replayed : Session) (store store' : StoreState) (answered : List PressAnswer) (new : Session)
+      → HasBackMidway old replayed → (feeds : PressesAll d old store answered new store') → RefusesNoKey answered
       → FindsNoChange d old store answered new store' feeds → HasTop d old replayed → RefusesNoPainting answered
       → HaveRows d old store answered new store' feeds
-      → HasTop d new (after_replaying d replayed (bytes_of answered))
+      → HasTop d new (after_replaying d replayed (presses_in answered))
   -- the end of the replay ends a search, a question or a paste and changes none of these parts else
   pub ends : (d : Data) (new replayed : Session) → HasBackMidway new replayed → HasBack (once_pasted d new) (at_replay_end d replayed)
   -- before any key of a journal the editor is settled, and so it is after each key that stores the text: a Save, or an answer
   pub settled_first : (d : Data) (b : Beginning) → IsSettled (at_offset d b).editor
-  pub save_settles : (d : Data) (s : Session) (byte : ℕ) → is_save_byte s byte ≡ true → IsSettled (after_replay d s byte).editor
-  -- in every case the replay applies all keys of the bytes, even those that the session refused
+  pub save_settles : (d : Data) (s : Session) (key : Option Key) → is_save_press s key ≡ true → IsSettled (after_replayed_press d s key).editor
+  -- in every case the replay of bytes applies all their keys, even those that the session refused
   pub applies_all : (d : Data) (text : List ℕ) (height width : ℕ) (base : Base) (bytes : List ℕ)
-      → (after_replaying d (at_opening d text height width base) bytes).editor
+      → (after_replaying d (at_opening d text height width base) (presses_from [] bytes)).editor
       ≡ after_all_replayed d (at_start text height width base) (decoding bytes).keys
   pub applies_all_set : (d : Data) (text : List ℕ) (height width : ℕ) (base : Base) (settings : SettingsState) (bytes : List ℕ)
       → let opened = with_settings d (at_opening d text height width base) settings in
-      (after_replaying d opened bytes).editor ≡ after_all_replayed d opened.editor (decoding bytes).keys
+      (after_replaying d opened (presses_from [] bytes)).editor ≡ after_all_replayed d opened.editor (decoding bytes).keys
 
 -- ---- from a journal
 
@@ -210,14 +209,15 @@ pub record TellsChanges (text : List ℕ) (store : StoreState) (had replayed : S
 
 -- A run starts from `b`: its journal had the bytes that were replayed, which left the editor settled; after the run it has
 -- `bytes`. If none is missing, no key was refused, no save found the file changed and the rows of the picture were taken as seen, a replay
--- of `bytes` over the opened text restores the session, whatever was typed after its end.
+-- of `bytes` over the opened text restores the session, and leaves the same bytes waiting, whatever was typed after the session's end.
 abbrev pub JournalsGiveBack : {J : Type 0} → (J → Option (List ℕ)) → (J → ℕ) → Type 0
 JournalsGiveBack {J} contents failures =
     (d : Data) (b : Beginning) (new : Session) (store store' : StoreState) (reader reader' writer writer' : Option (List ℕ))
     (journal journal' : RecorderState J) (bytes : List ℕ)
-    (run : RunsRecorded contents failures d (begun d b) new store store' reader reader' writer writer' journal journal')
-    → HasAll contents journal b.journal → IsSettled (after_replaying d (at_offset d b) b.journal).editor → HasAll contents journal' bytes
-    → RefusesNoKey run.0 → FindsNoChange d (begun d b) store run.0 run.3 store' run.4.feeds
-    → PointsAsSeen d (begun d b) store run.0 run.3 store' run.4.feeds
+    (rest : List ℕ) (run : RunsRecorded contents failures d (rest_from [] b.journal) rest (begun d b) new store store' reader reader' writer writer'
+    journal journal')
+    → HasAll contents journal b.journal → IsSettled (after_replaying d (at_offset d b) (presses_from [] b.journal)).editor → HasAll contents journal' bytes
+    → RefusesNoKey run.1 → FindsNoChange d (begun d b) store run.1 run.4 store' run.5.feeds
+    → PointsAsSeen d (begun d b) store run.1 run.4 store' run.5.feeds
     → let replayed = unpainted_at d (record b { journal = bytes }) in
-    HasBack (once_pasted d new) replayed × TellsChanges b.text store' (once_pasted d new) replayed
+    HasBack (once_pasted d new) replayed × TellsChanges b.text store' (once_pasted d new) replayed × (rest ≡ rest_from [] bytes)

@@ -16,7 +16,7 @@ pub fn paintings_keep_up()
     ensures { AlwaysShowsState }
 {}
 
-/// If no painting is owed, another painting changes nothing and sends nothing. So a byte that completes no key needs none.
+/// If no painting is owed, another painting changes nothing and sends nothing. So a press without a key needs none.
 pub fn painting_anew_sends_nothing()
     ensures { AlwaysStaysPainted }
 {}
@@ -26,22 +26,22 @@ pub fn keys_are_those_of_input()
     ensures { HasKeysOfInput }
 {}
 
-/// A replay of bytes applies their keys in order. A Save stores nothing, and a Quit does not end the session.
+/// A replay of presses applies their keys in order. A Save stores nothing, and a Quit does not end the session.
 pub fn replays_apply_keys()
     ensures { ReplaysKeys }
 {}
 
-/// A session's bytes, replayed over its opened text, restore text, history, runs, place, mark and its softness, presses, held bytes,
-/// query, replacement, direction, kept column, window, settings and unfinished input, wherever it saved and even if it quit; a paste that
-/// is under way ends. So it is unless the session refused a key for want of memory, which the replay applies; or refused a painting,
+/// A session's presses, replayed over its opened text, restore text, history, runs, place, mark and its softness, presses, held bytes,
+/// query, replacement, direction, kept column, window and settings, wherever it saved and even if it quit; a paste that is under way
+/// ends. So it is unless the session refused a key for want of memory, which the replay applies; or refused a painting,
 /// and after that a key rested on the row shown first; or found at a save that another program had changed the file.
 pub fn recovery_gives_back()
     ensures { RecoveryGivesBack }
 {}
 
 /// The bytes of a journal that has all of the input, replayed over the opened text, restore the session that was run with it, as
-/// [`recovery_gives_back`] says. Keys typed after the session's end do not come back. The session counts as changed wherever it
-/// did before.
+/// [`recovery_gives_back`] says, and leave the same bytes waiting. Keys typed after the session's end do not come back. The session
+/// counts as changed wherever it did before.
 pub fn journals_give_back<J: Journal + Drop>()
     ensures { JournalsGiveBack J.contents J.failure_count }
 {}

@@ -4,8 +4,6 @@ use Rattle.std.proofs.Common.{refl, sym, ap, subst, ◌∙◌, if◌then◌else�
 use Rattle.std.specs.Prelude.{IfSome, ◌==◌, ◌&&◌, is_some, not}
 use Rattle.bx_keys.specs.declared.key.Key.{Key}
 use Rattle.bx_keys.specs.declared.key.Key.TheVariants.{Quit, Save}
-use Rattle.bx_keys.specs.Keys.{rest_after}
-use Rattle.bx_keys.specs.Waiting.{head_of}
 use Rattle.bx_grid.specs.Picture.{PictureState, IsIdle, Shows}
 use Rattle.bx_grid.specs.Terminal.{Terminal, reads}
 use Rattle.bx_ucd.specs.Data.{Data}
@@ -23,16 +21,17 @@ use Rattle.bx_editor.specs.Replay as replay
 use Rattle.bx_editor.specs.Picture.{scrolled, scrolled_by}
 use Rattle.bx_editor.specs.Scrolling.{scroll_of}
 use Rattle.bx_view.specs.Top.{follow}
-use Rattle.bx_session.specs.Session.{Session, after_spending, key_of_byte, session_after_key, clipboard_if}
-use Rattle.bx_session.specs.Replaying.{after_all_replayed, after_passed, at_replay_end, after_replay, after_replayed_key, session_after_replayed}
+use Rattle.bx_session.specs.Inputs.{presses_from}
+use Rattle.bx_session.specs.Session.{Session, counted_key, session_after_key, clipboard_if}
+use Rattle.bx_session.specs.Replaying.{after_all_replayed, after_passed, at_replay_end, after_replayed_key, after_replayed_press, session_after_replayed}
 use Rattle.bx_session.specs.Replaying.{moved_by, session_after_replayed_quit, session_replayed_on, session_scrolled}
 use Rattle.bx_session.specs.Painting.{QueuesPicture}
-use Rattle.bx_session.specs.Laws.{keys_from, after_journal, after_replaying}
+use Rattle.bx_session.specs.Laws.{after_journal, after_replaying}
 use Rattle.bx_session.specs.Beginning.{Beginning, IsBegun, after_going_to, changed_if, at_offset, opened, unpainted_at, begun}
 use Rattle.bx_session.proofs.Input.{keys_of_input}
 use Rattle.bx_session.proofs.KeySizes.{SameSize, ended_goes_on}
 use Rattle.bx_session.proofs.Pictures.{picture_height, picture_width}
-use Rattle.bx_session.proofs.Replayed.{replays_keys, rest_from, replayed_rest}
+use Rattle.bx_session.proofs.Replayed.{replays_keys}
 use Rattle.bx_world.specs.Showing.{FitsWindow, IsInStep, picture_of}
 use Rattle.bx_world.specs.Runs.{begins_at}
 use Rattle.bx_world.specs.Laws.{BeginsWithKeys}
@@ -47,8 +46,8 @@ window_is height width e on =
     let each = both (height == e.height) (width == e.width) on in
     (sym (same_number height e.height each.0), sym (same_number width e.width each.1))
 
-opened_at : (d : Data) (s : Session) (t : Terminal) → IsIdle t → QueuesPicture d [] None s → IsInStep d (begins_at s t)
-opened_at d s t idle queued =
+opened_at : (d : Data) (rest : List ℕ) (s : Session) (t : Terminal) → IsIdle t → QueuesPicture d [] None s → IsInStep d (begins_at rest s t)
+opened_at d rest s t idle queued =
     let paints = queued.1 in
     let p = picture_of d s in record {
       state = λ owed. (paints.painted, paints.known);
@@ -89,14 +88,10 @@ stays_on t old mid new first last = record {
   known = λ on. known_on new.known mid.known (fits t.height t.width mid.editor) (fits t.height t.width old.editor) old.known (last.known on) first.known;
 }
 
-spent_stays : (ended : Bool) (t : Terminal) (s : Session) (rest : List ℕ) → StaysKnown t s (if ended then s else record s { rest = rest })
-spent_stays true t s rest = stays_at t s
-spent_stays false t s rest = record { pending = refl; known = known_at (fits t.height t.width s.editor) s.known }
-
 key_stays : (d : Data) (t : Terminal) (s : Session) (key : Key) → StaysKnown t s (session_after_key d None s key)
 key_stays d t s key = record {
   pending = refl;
-  known = λ on. (key_keeps d None (begins_at s t) s key).known
+  known = λ on. (key_keeps d None (begins_at [] s t) s key).known
       (key_fits d None t.height t.width (fits t.height t.width s.editor) s.editor key refl ∙ on);
 }
 
@@ -147,17 +142,14 @@ any_stays d t s (Some key) =
     (stays_on t s from new (passed_stays t s (scrolled d s.editor) refl refl) (replayed_stays d t over.prompt over.search_state from key))
     (passed_stays t new (moved_by d (scroll_of s.editor key) new.editor) refl refl)
 
-byte_stays : (d : Data) (t : Terminal) (s : Session) (b : ℕ) → StaysKnown t s (after_replay d s b)
-byte_stays d t s b =
-    let spent = after_spending s b in
-    let all = stays_on t s spent (after_replayed_key d spent (key_of_byte s b)) (spent_stays s.editor.ended t s (head_of (rest_after s.rest b)))
-    (any_stays d t spent (key_of_byte s b)) in
-    record { pending = all.pending; known = all.known }
+press_stays : (d : Data) (t : Terminal) (s : Session) (key : Option Key) → StaysKnown t s (after_replayed_press d s key)
+press_stays d t s key = let all = any_stays d t s (counted_key s key) in record { pending = all.pending; known = all.known }
 
-bytes_stay : (d : Data) (t : Terminal) (s : Session) (bs : List ℕ) → StaysKnown t s (after_replaying d s bs)
-bytes_stay d t s [] = stays_at t s
-bytes_stay d t s (b ∷ bs) =
-    stays_on t s (after_replay d s b) (after_replaying d (after_replay d s b) bs) (byte_stays d t s b) (bytes_stay d t (after_replay d s b) bs)
+presses_stay : (d : Data) (t : Terminal) (s : Session) (presses : List (Option Key)) → StaysKnown t s (after_replaying d s presses)
+presses_stay d t s [] = stays_at t s
+presses_stay d t s (key ∷ more) =
+    let next = after_replayed_press d s key in
+    stays_on t s next (after_replaying d next more) (press_stays d t s key) (presses_stay d t next more)
 
 end_stays : (d : Data) (t : Terminal) (s : Session) → StaysKnown t s (at_replay_end d s)
 end_stays d t s =
@@ -165,8 +157,10 @@ end_stays d t s =
     let passed = passed_stays t s (scrolled d (replay.at_replay_end (paste_ended d s.editor))) size.0 size.1 in
     record { pending = passed.pending; known = passed.known }
 
-journal_stays : (d : Data) (t : Terminal) (s : Session) (bs : List ℕ) → StaysKnown t s (after_journal d s bs)
-journal_stays d t s bs = stays_on t s (after_replaying d s bs) (after_journal d s bs) (bytes_stay d t s bs) (end_stays d t (after_replaying d s bs))
+journal_stays : (d : Data) (t : Terminal) (s : Session) (presses : List (Option Key)) → StaysKnown t s (after_journal d s presses)
+journal_stays d t s presses =
+    let left = after_replaying d s presses in
+    stays_on t s left (after_journal d s presses) (presses_stay d t s presses) (end_stays d t left)
 
 going_stays : (d : Data) (t : Terminal) (s : Session) (offset : Option ℕ) → StaysKnown t s (after_going_to d s offset)
 going_stays d t s None = stays_at t s
@@ -190,12 +184,13 @@ offset_stays d t b =
 
 -- ---- a session that begins a run
 
-pub begun_at : (d : Data) (b : Beginning) (t : Terminal) → IsIdle t → IsBegun d b → IsInStep d (begins_at (begun d b) t)
-begun_at d b t idle begins =
+pub begun_at : (d : Data) (b : Beginning) (rest : List ℕ) (t : Terminal) → IsIdle t → IsBegun d b → IsInStep d (begins_at rest (begun d b) t)
+begun_at d b rest t idle begins =
     let s : Session = opened d b in
     let stays : StaysKnown t s (unpainted_at d b) =
-    stays_on t s (at_offset d b) (unpainted_at d b) (offset_stays d t b) (journal_stays d t (at_offset d b) b.journal) in
-    painted d (begins_at s t) (begun d b) (fits t.height t.width (begun d b).editor) (unpainted_at d b).known (opened_at d s t idle begins.opened)
+    stays_on t s (at_offset d b) (unpainted_at d b) (offset_stays d t b) (journal_stays d t (at_offset d b) (presses_from [] b.journal)) in
+    painted d (begins_at rest s t) (begun d b) (fits t.height t.width (begun d b).editor) (unpainted_at d b).known
+    (opened_at d rest s t idle begins.opened)
     (subst (λ (q : List ℕ). QueuesPicture d q (unpainted_at d b).known (begun d b)) stays.pending begins.painted)
     stays.known (λ on. window_is t.height t.width (begun d b).editor on)
 
@@ -205,41 +200,19 @@ clipboard_goes_on : (clipboard : Bool) (s : Session) → s.editor.ended ≡ fals
 clipboard_goes_on true s on = on
 clipboard_goes_on false s on = on
 
-clipboard_rest : (clipboard : Bool) (s : Session) → (clipboard_if clipboard s).rest ≡ s.rest
-clipboard_rest true s = refl
-clipboard_rest false s = refl
-
 going_goes_on : (d : Data) (s : Session) (offset : Option ℕ) → s.editor.ended ≡ false → (after_going_to d s offset).editor.ended ≡ false
 going_goes_on d s None on = on
 going_goes_on d s (Some offset) on = on
 
-going_rest : (d : Data) (s : Session) (offset : Option ℕ) → (after_going_to d s offset).rest ≡ s.rest
-going_rest d s None = refl
-going_rest d s (Some offset) = refl
-
 changed_goes_on : (unsaved : Bool) (s : Session) → s.editor.ended ≡ false → (changed_if unsaved s).editor.ended ≡ false
 changed_goes_on true s on = on
 changed_goes_on false s on = on
-
-changed_rest : (unsaved : Bool) (s : Session) → (changed_if unsaved s).rest ≡ s.rest
-changed_rest true s = refl
-changed_rest false s = refl
 
 offset_goes_on : (d : Data) (b : Beginning) → (at_offset d b).editor.ended ≡ false
 offset_goes_on d b =
     let s : Session = opened d b in
     let first : Session = clipboard_if b.clipboard s in
     changed_goes_on b.unsaved (after_going_to d first b.offset) (going_goes_on d first b.offset (clipboard_goes_on b.clipboard s refl))
-
-offset_rest : (d : Data) (b : Beginning) → (at_offset d b).rest ≡ []
-offset_rest d b =
-    let s : Session = opened d b in
-    let first : Session = clipboard_if b.clipboard s in
-    changed_rest b.unsaved (after_going_to d first b.offset) ∙ going_rest d first b.offset ∙ clipboard_rest b.clipboard s
-
-pub begun_rest : (d : Data) (b : Beginning) → (begun d b).rest ≡ rest_from [] b.journal
-begun_rest d b =
-    replayed_rest d (at_offset d b) b.journal (offset_goes_on d b) ∙ ap (λ rest. rest_from rest b.journal) (offset_rest d b)
 
 -- a painting without a key scrolls to the cursor alone
 least_is : (d : Data) (e : Editor) → scrolled_by d Least e ≡ scrolled d e
@@ -251,7 +224,7 @@ least_is d e = ap (with_top e) (by e.ended (follow (rows d e) e.top e.place (tex
 pub begins_with_keys : BeginsWithKeys
 begins_with_keys = record {
   replayed = λ d b. ap (λ (e : Editor). scrolled d (replay.at_replay_end (paste_ended d e)))
-      (replays_keys d (at_offset d b) b.journal (offset_goes_on d b)
-      ∙ ap (after_all_replayed d (at_offset d b).editor) (ap (λ rest. keys_from rest b.journal) (offset_rest d b) ∙ keys_of_input b.journal));
+      (replays_keys d (at_offset d b) (presses_from [] b.journal) (offset_goes_on d b)
+      ∙ ap (after_all_replayed d (at_offset d b).editor) (keys_of_input b.journal));
   painted = λ d b. least_is d (unpainted_at d b).editor;
 }

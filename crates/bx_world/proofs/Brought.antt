@@ -16,25 +16,25 @@ use Rattle.bx_ucd.specs.Data.{Data}
 use Rattle.bx_editor.specs.Editor.{Editor, with_top}
 use Rattle.bx_editor.specs.declared.scrolling.Scroll.{Scroll}
 use Rattle.bx_session.specs.declared.status.Refused.TheVariants as refused
-use Rattle.bx_session.specs.Session.{Session, key_of_byte, after_spending, session_after_any, unpainted_after_byte, painted_after}
+use Rattle.bx_session.specs.Session.{Session, counted_key, session_after_any, unpainted_after_press, painted_after}
 use Rattle.bx_editor.specs.Picture.{next_top, scrolled_by}
 use Rattle.bx_editor.specs.Scrolling.{moved_top}
-use Rattle.bx_session.specs.Session.{is_painted, after_byte, scroll_behind, StoreState, StoreAfter, stores_by, is_save_byte, text_to_save}
+use Rattle.bx_session.specs.Session.{is_painted_press, after_press, scroll_behind, StoreState, StoreAfter, stores_by, is_save_press, text_to_save}
+use Rattle.bx_session.specs.Inputs.{keys_in, presses_from, rest_from}
 use Rattle.bx_session.specs.Laws.{keys_from}
 use Rattle.bx_session.proofs.Input.{keys_of_input}
-use Rattle.bx_session.proofs.Replayed.{rest_from, keys_from_both}
+use Rattle.bx_session.proofs.Typing.{keys_are, keys_in_both, presses_from_both}
 use Rattle.bx_world.specs.declared.step.Step.{Step}
 use Rattle.bx_world.specs.declared.step.Step.TheVariants.{Byte, Window, Told, Send, Read}
 use Rattle.bx_world.specs.declared.step.StepFault.{StepFault}
 use Rattle.bx_world.specs.declared.step.StepFault.TheVariants as faults
 use Rattle.bx_world.specs.World.{World, after_window, after_send, after_read, with_failed_screen, StepsTo, PlaysTo, AfterByteStep}
-use Rattle.bx_world.specs.World.{AfterToldStep, AfterWindowStep, AfterSendStep, AfterReadStep, is_ok}
+use Rattle.bx_world.specs.World.{AfterToldStep, AfterWindowStep, AfterSendStep, AfterReadStep, is_ok, press_of}
 use Rattle.bx_world.specs.Events.{Event, Input, Telling, after_input, after_event, after_events, after_save_of, stored_after, stored_after_all, failed_saves}
 use Rattle.bx_world.specs.Events.{input_of, keys_of, HasKeysOfAll, is_applied, Brings, BringsByte, AreEventsFrom, owed_after, owed_by, painted_if}
 use Rattle.bx_world.specs.Following.{Follows}
-use Rattle.bx_world.proofs.Ended.{after_both, has_input}
-use Rattle.bx_world.proofs.Keys.{spent}
-use Rattle.bx_world.proofs.Schedules.{byte_owes}
+use Rattle.bx_world.proofs.Ended.{after_both, has_input, over, over_step}
+use Rattle.bx_world.proofs.Schedules.{press_owes}
 
 -- ---- events in two parts
 
@@ -45,7 +45,7 @@ stored_both d e store (event ∷ first) others = stored_both d (after_event d e 
 
 -- ---- the keys of events
 
--- each byte has the key that it ends behind what a session keeps of those before
+-- each byte has the key that it ends behind what is kept of those before
 abbrev pub AreDecoded : List ℕ → List Event → Type 0
 AreDecoded rest [] = Unit {0}
 AreDecoded rest (Input byte key applied fault painted ∷ more) = (key ≡ key_after rest byte) × AreDecoded (head_of (rest_after rest byte)) more
@@ -64,80 +64,79 @@ front_decoded rest (Input byte key applied fault painted ∷ front) back are =
     (are.0, front_decoded (head_of (rest_after rest byte)) front back are.1)
 front_decoded rest (Telling height width painted ∷ front) back are = front_decoded rest front back are
 
--- behind the bytes of a journal, of which this waits
+-- behind the bytes of a journal
 pub decoded_behind : (journal : List ℕ) (events : List Event) → AreDecoded (rest_from [] journal) events → HasKeysOfAll journal events
 decoded_behind journal events are front back is =
+    let waits = rest_from [] journal in
+    let typed = input_of front in
     ap (λ ks. ks ++ keys_of front) (sym (keys_of_input journal))
-    ∙ ap (λ ks. keys_from [] journal ++ ks) (decoded_keys (rest_from [] journal) front (front_decoded (rest_from [] journal) front back
-    (subst (AreDecoded (rest_from [] journal)) is are)))
-    ∙ sym (keys_from_both [] journal (input_of front))
-    ∙ keys_of_input (journal ++ input_of front)
+    ∙ ap (λ ks. keys_in (presses_from [] journal) ++ ks)
+    (decoded_keys waits front (front_decoded waits front back (subst (AreDecoded waits) is are)) ∙ sym (keys_are waits typed))
+    ∙ sym (keys_in_both (presses_from [] journal) (presses_from waits typed))
+    ∙ ap keys_in (sym (presses_from_both [] journal typed))
+    ∙ keys_of_input (journal ++ typed)
 
 -- ---- a byte
 
--- what a byte leaves of the editor, of what waits, and of the painting that is owed
-pub record IsFed (d : Data) (answer : Result (Unit {0}) StepFault) (fault : Option StoreFault) (s : Session) (b : ℕ) (new : Session) : Type 0 where
-  pub editor : new.editor ≡ painted_if (is_ok answer && is_painted s b) d (scroll_behind s.editor (key_of_byte s b))
-      (after_input d (is_applied answer) fault s.editor (key_of_byte s b))
-  pub rest : new.rest ≡ (after_spending s b).rest
-  pub owed : new.painting_owed ≡ owed_by s.painting_owed answer
+-- what a byte makes of the editor, of what waits, and of the painting that is owed
+pub record IsPressed (d : Data) (answer : Result (Unit {0}) StepFault) (fault : Option StoreFault) (old : World) (b : ℕ) (new : World) : Type 0 where
+  pub editor : new.session.editor
+      ≡ painted_if (is_ok answer && is_painted_press old.session (press_of old b)) d
+      (scroll_behind old.session.editor (counted_key old.session (press_of old b)))
+      (after_input d (is_applied answer) fault old.session.editor (counted_key old.session (press_of old b)))
+  pub rest : new.rest ≡ head_of (rest_after old.rest b)
+  pub owed : new.session.painting_owed ≡ owed_by old.session.painting_owed answer
 
 any_editor : (d : Data) (fault : Option StoreFault) (s : Session) (key : Option Key) → (session_after_any d fault s key).editor ≡ after_input d true fault s.editor key
 any_editor d fault s None = refl
 any_editor d fault s (Some key) = refl
 
-any_rest : (d : Data) (fault : Option StoreFault) (s : Session) (key : Option Key) → (session_after_any d fault s key).rest ≡ s.rest
-any_rest d fault s None = refl
-any_rest d fault s (Some key) = refl
-
-unpainted_editor : (d : Data) (fault : Option StoreFault) (s : Session) (b : ℕ)
-    → (unpainted_after_byte d fault s b).editor ≡ after_input d true fault s.editor (key_of_byte s b)
-unpainted_editor d fault s b =
-    any_editor d fault (after_spending s b) (key_of_byte s b)
-    ∙ ap (λ (e : Editor). after_input d true fault e (key_of_byte s b)) (spent s b).editor
-
-unpainted_rest : (d : Data) (fault : Option StoreFault) (s : Session) (b : ℕ) → (unpainted_after_byte d fault s b).rest ≡ (after_spending s b).rest
-unpainted_rest d fault s b = any_rest d fault (after_spending s b) (key_of_byte s b)
+unpainted_editor : (d : Data) (fault : Option StoreFault) (s : Session) (key : Option Key)
+    → (unpainted_after_press d fault s key).editor ≡ after_input d true fault s.editor (counted_key s key)
+unpainted_editor d fault s key = any_editor d fault s (counted_key s key)
 
 refused_input : (d : Data) (fault : Option StoreFault) (e : Editor) (key : Option Key) → e ≡ after_input d false fault e key
 refused_input d fault e None = refl
 refused_input d fault e (Some key) = refl
 
-painted_fed : (d : Data) (fault : Option StoreFault) (s : Session) (b : ℕ) → IsFed d (Ok tt) fault s b (after_byte d fault s b)
-painted_fed d fault s b = record { editor = by_editor (is_painted s b); rest = by_rest (is_painted s b); owed = byte_owes d fault s b } where
+press_editor : (d : Data) (fault : Option StoreFault) (s : Session) (key : Option Key)
+    → (after_press d fault s key).editor
+    ≡ painted_if (is_painted_press s key) d (scroll_behind s.editor (counted_key s key)) (after_input d true fault s.editor (counted_key s key))
+press_editor d fault s key = by_editor (is_painted_press s key) where
   u : Session
-  u = unpainted_after_byte d fault s b
+  u = unpainted_after_press d fault s key
+
+  counts : Option Key
+  counts = counted_key s key
 
   scroll : Scroll
-  scroll = scroll_behind s.editor (key_of_byte s b)
+  scroll = scroll_behind s.editor counts
 
-  by_editor : (paints : Bool) → (if paints then painted_after d scroll u (key_of_byte s b) else u).editor
-      ≡ painted_if paints d scroll (after_input d true fault s.editor (key_of_byte s b))
-  by_editor true = ap (scrolled_by d scroll) (unpainted_editor d fault s b)
-  by_editor false = unpainted_editor d fault s b
+  by_editor : (paints : Bool) → (if paints then painted_after d scroll u counts else u).editor
+      ≡ painted_if paints d scroll (after_input d true fault s.editor counts)
+  by_editor true = ap (scrolled_by d scroll) (unpainted_editor d fault s key)
+  by_editor false = unpainted_editor d fault s key
 
-  by_rest : (paints : Bool) → (if paints then painted_after d scroll u (key_of_byte s b) else u).rest ≡ (after_spending s b).rest
-  by_rest true = unpainted_rest d fault s b
-  by_rest false = unpainted_rest d fault s b
-
-pub byte_fed : (d : Data) (fault : Option StoreFault) (old new : World) (b : ℕ) (answer : Result (Unit {0}) StepFault) → AfterByteStep d fault old b answer new
-    → IsFed d answer fault old.session b new.session
-byte_fed d fault old new b (Ok done) is =
-    subst (λ (w : World). IsFed d (Ok done) fault old.session b w.session) (sym is)
-    (let fed = painted_fed d fault old.session b in record { editor = fed.editor; rest = fed.rest; owed = fed.owed })
-byte_fed d fault old new b (Err (faults.Session refused.Paint)) is =
-    subst (λ (w : World). IsFed d (Err (faults.Session refused.Paint)) fault old.session b w.session) (sym is.0)
-    (record { editor = unpainted_editor d fault old.session b; rest = unpainted_rest d fault old.session b; owed = refl })
-byte_fed d fault old new b (Err (faults.Session refused.Edit)) is =
-    subst (λ (w : World). IsFed d (Err (faults.Session refused.Edit)) fault old.session b w.session) (sym is.0)
-    (record {
-      editor = (spent old.session b).editor ∙ refused_input d fault old.session.editor (key_of_byte old.session b);
+pub byte_pressed : (d : Data) (fault : Option StoreFault) (old new : World) (b : ℕ) (answer : Result (Unit {0}) StepFault)
+    → AfterByteStep d fault old b answer new → IsPressed d answer fault old b new
+byte_pressed d fault old new b (Ok done) is =
+    subst (λ (w : World). IsPressed d (Ok done) fault old b w) (sym is) (record {
+      editor = press_editor d fault old.session (press_of old b);
       rest = refl;
-      owed = (spent old.session b).owed;
+      owed = press_owes d fault old.session (press_of old b);
     })
-byte_fed d fault old new b (Err (faults.Session refused.Size)) is = absurd is
-byte_fed d fault old new b (Err (faults.Screen _)) is = absurd is
-byte_fed d fault old new b (Err faults.Line) is = absurd is
+byte_pressed d fault old new b (Err (faults.Session refused.Paint)) is =
+    subst (λ (w : World). IsPressed d (Err (faults.Session refused.Paint)) fault old b w) (sym is.0)
+    (record { editor = unpainted_editor d fault old.session (press_of old b); rest = refl; owed = refl })
+byte_pressed d fault old new b (Err (faults.Session refused.Edit)) is =
+    subst (λ (w : World). IsPressed d (Err (faults.Session refused.Edit)) fault old b w) (sym is.0) (record {
+      editor = refused_input d fault old.session.editor (counted_key old.session (press_of old b));
+      rest = refl;
+      owed = refl;
+    })
+byte_pressed d fault old new b (Err (faults.Session refused.Size)) is = absurd is
+byte_pressed d fault old new b (Err (faults.Screen _)) is = absurd is
+byte_pressed d fault old new b (Err faults.Line) is = absurd is
 
 -- after the end a painting scrolls no more
 ended_top : (painted : Bool) (d : Data) (scroll : Scroll) (e : Editor) → e.ended ≡ true → painted_if painted d scroll e ≡ e
@@ -151,7 +150,7 @@ neither : (applied : Bool) → (applied && false) ≡ false
 neither true = refl
 neither false = refl
 
--- the key of a byte, and what waits behind it, after the session's end and before
+-- the key of a press after the session's end and before
 key_if : (ended : Bool) (key : Option Key) → ended ≡ true → (if ended then None else key) ≡ None
 key_if true key on = refl
 key_if false key on = absurd (cc on)
@@ -160,13 +159,11 @@ key_if_not : (ended : Bool) (key : Option Key) → ended ≡ false → (if ended
 key_if_not true key off = absurd (cc off)
 key_if_not false key off = refl
 
-rest_if : (ended : Bool) (s : Session) (rest : List ℕ) → ended ≡ true → (if ended then s else record s { rest = rest }).rest ≡ s.rest
-rest_if true s rest on = refl
-rest_if false s rest on = absurd (cc on)
-
-rest_if_not : (ended : Bool) (s : Session) (rest : List ℕ) → ended ≡ false → (if ended then s else record s { rest = rest }).rest ≡ rest
-rest_if_not true s rest off = absurd (cc off)
-rest_if_not false s rest off = refl
+-- events without bytes, whatever waits
+none_decoded : (rest : List ℕ) (events : List Event) → input_of events ≡ [] → AreDecoded rest events
+none_decoded rest [] none = tt
+none_decoded rest (Input byte key applied fault painted ∷ more) none = absurd (cc none)
+none_decoded rest (Telling height width painted ∷ more) none = none_decoded rest more none
 
 -- ---- a step
 
@@ -177,7 +174,8 @@ record StepBrings (d : Data) (old new : World) (store store' : StoreState) (step
   pub owed : new.session.painting_owed ≡ owed_after old.session.painting_owed step answer
   pub editor : new.session.editor ≡ after_events d old.session.editor first
   pub stored : store' ≡ stored_after_all d old.session.editor store first
-  pub decoded : (others : List Event) → AreDecoded new.session.rest others → AreDecoded old.session.rest (first ++ others)
+  pub decoded : (others : List Event) → (old.session.editor.ended ≡ true → input_of others ≡ []) → AreDecoded new.rest others
+      → AreDecoded old.rest (first ++ others)
 
 store_is : (saves : Bool) (fault : Option StoreFault) (text : List ℕ) (store store' : StoreState) → StoreAfter saves fault text store store'
     → store' ≡ (if saves then after_save_of text fault store else store)
@@ -189,37 +187,36 @@ store_is false fault text store store' is = is
 
 byte_brings : (ended : Bool) (d : Data) (fault : Option StoreFault) (old new : World) (store store' : StoreState) (b : ℕ) (answer : Result (Unit {0}) StepFault)
     → old.session.editor.ended ≡ ended
-    → StoreAfter (is_applied answer && is_save_byte old.session b) fault (text_to_save d old.session.editor) store store'
-    → IsFed d answer fault old.session b new.session → StepBrings d old new store store' (Byte b) answer
-byte_brings true d fault old new store store' b answer on stores fed =
+    → StoreAfter (is_applied answer && is_save_press old.session (press_of old b)) fault (text_to_save d old.session.editor) store store'
+    → IsPressed d answer fault old b new → StepBrings d old new store store' (Byte b) answer
+byte_brings true d fault old new store store' b answer on stores pressed =
     let s = old.session in
-    let scroll : Scroll = scroll_behind s.editor (key_of_byte s b) in
-    let none : key_of_byte s b ≡ None = key_if s.editor.ended (key_after s.rest b) on in
-    let same : new.session.rest ≡ s.rest = fed.rest ∙ rest_if s.editor.ended s (head_of (rest_after s.rest b)) on in record {
+    let key = counted_key s (press_of old b) in
+    let paints = is_ok answer && is_painted_press s (press_of old b) in
+    let scroll : Scroll = scroll_behind s.editor key in
+    let none : key ≡ None = key_if s.editor.ended (press_of old b) on in record {
       first = [];
       brings = subst (λ ended. BringsByte ended s.painting_owed s.editor b answer []) (sym on) refl;
-      owed = fed.owed;
-      editor = fed.editor
-          ∙ ap (λ key. painted_if (is_ok answer && is_painted s b) d scroll (after_input d (is_applied answer) fault s.editor key)) none
-          ∙ ended_top (is_ok answer && is_painted s b) d scroll s.editor on;
+      owed = pressed.owed;
+      editor = pressed.editor
+          ∙ ap (λ k. painted_if paints d scroll (after_input d (is_applied answer) fault s.editor k)) none
+          ∙ ended_top paints d scroll s.editor on;
       stored = subst (λ saves. StoreAfter saves fault (text_to_save d s.editor) store store')
-          (ap (λ key. is_applied answer && stores_by s.editor key) none ∙ neither (is_applied answer)) stores;
-      decoded = λ others are. subst (λ rest. AreDecoded rest others) same are;
+          (ap (λ k. is_applied answer && stores_by s.editor k) none ∙ neither (is_applied answer)) stores;
+      decoded = λ others over are. none_decoded old.rest others (over on);
     }
-byte_brings false d fault old new store store' b answer off stores fed =
+byte_brings false d fault old new store store' b answer off stores pressed =
     let s = old.session in
-    let key = key_of_byte s b in
-    let next : new.session.rest ≡ head_of (rest_after s.rest b) =
-    fed.rest ∙ rest_if_not s.editor.ended s (head_of (rest_after s.rest b)) off in record {
-      first = Input b key (is_applied answer) fault (is_ok answer && is_painted s b) ∷ [];
-      brings = subst (λ ended. BringsByte ended s.painting_owed s.editor b answer (Input b key (is_applied answer) fault (is_ok answer && is_painted s b) ∷ []))
-          (sym off) (key, fault, refl);
-      owed = fed.owed;
-      editor = fed.editor;
+    let key = counted_key s (press_of old b) in
+    let event = Input b key (is_applied answer) fault (is_ok answer && is_painted_press s (press_of old b)) in record {
+      first = event ∷ [];
+      brings = subst (λ ended. BringsByte ended s.painting_owed s.editor b answer (event ∷ [])) (sym off) (key, fault, refl);
+      owed = pressed.owed;
+      editor = pressed.editor;
       stored = store_is (is_applied answer && stores_by s.editor key) fault (text_to_save d s.editor) store store' stores;
-      decoded = λ others are. (
-        key_if_not s.editor.ended (key_after s.rest b) off,
-        subst (λ rest. AreDecoded rest others) next are,
+      decoded = λ others over are. (
+        key_if_not s.editor.ended (press_of old b) off,
+        subst (λ rest. AreDecoded rest others) pressed.rest are,
       );
     }
 
@@ -233,7 +230,7 @@ no_size_if false event off = refl
 
 telling_brings : (d : Data) (old new : World) (store store' : StoreState) (height width : ℕ) (answer : Result (Unit {0}) StepFault)
     → is_size height width ≡ true → new.session.editor ≡ after_events d old.session.editor (Telling height width (is_ok answer) ∷ [])
-    → new.session.rest ≡ old.session.rest → new.session.painting_owed ≡ owed_by old.session.painting_owed answer → store' ≡ store
+    → new.rest ≡ old.rest → new.session.painting_owed ≡ owed_by old.session.painting_owed answer → store' ≡ store
     → StepBrings d old new store store' (Told height width) answer
 telling_brings d old new store store' height width answer sized editor rest owed same = record {
   first = Telling height width (is_ok answer) ∷ [];
@@ -241,24 +238,24 @@ telling_brings d old new store store' height width answer sized editor rest owed
   owed = owed;
   editor = editor;
   stored = same;
-  decoded = λ others are. subst (λ rest. AreDecoded rest others) rest are;
+  decoded = λ others over are. subst (λ rest. AreDecoded rest others) rest are;
 }
 
 told_brings : (d : Data) (old new : World) (store store' : StoreState) (height width : ℕ) (answer : Result (Unit {0}) StepFault)
     → AfterToldStep d old height width answer new → store' ≡ store → StepBrings d old new store store' (Told height width) answer
 told_brings d old new store store' height width (Ok done) is same =
     telling_brings d old new store store' height width (Ok done) is.0 (ap (λ (w : World). w.session.editor) is.1)
-    (ap (λ (w : World). w.session.rest) is.1) (ap (λ (w : World). w.session.painting_owed) is.1) same
+    (ap (λ (w : World). w.rest) is.1) (ap (λ (w : World). w.session.painting_owed) is.1) same
 told_brings d old new store store' height width (Err (faults.Session refused.Paint)) is same =
     telling_brings d old new store store' height width (Err (faults.Session refused.Paint)) is.0 (ap (λ (w : World). w.session.editor) is.1)
-    (ap (λ (w : World). w.session.rest) is.1) (ap (λ (w : World). w.session.painting_owed) is.1) same
+    (ap (λ (w : World). w.rest) is.1) (ap (λ (w : World). w.session.painting_owed) is.1) same
 told_brings d old new store store' height width (Err (faults.Session refused.Size)) is same = record {
   first = [];
   brings = no_size_if (is_size height width) (Telling height width false) is.0;
   owed = ap (λ (w : World). w.session.painting_owed) is.1;
   editor = ap (λ (w : World). w.session.editor) is.1;
   stored = same;
-  decoded = λ others are. subst (λ (w : World). AreDecoded w.session.rest others) is.1 are;
+  decoded = λ others over are. subst (λ (w : World). AreDecoded w.rest others) is.1 are;
 }
 told_brings d old new store store' height width (Err (faults.Session refused.Edit)) is same = absurd is
 told_brings d old new store store' height width (Err (faults.Screen fault)) is same = absurd is
@@ -267,7 +264,7 @@ told_brings d old new store store' height width (Err faults.Line) is same = absu
 -- editor, waiting input and owed painting are as they were
 record IsUntouched (old new : World) : Type 0 where
   pub editor : new.session.editor ≡ old.session.editor
-  pub rest : new.session.rest ≡ old.session.rest
+  pub rest : new.rest ≡ old.rest
   pub owed : new.session.painting_owed ≡ old.session.painting_owed
 
 untouched_as : (old w new : World) → new ≡ w → IsUntouched old w → IsUntouched old new
@@ -306,13 +303,13 @@ nothing_brought d old new store store' step answer none stays untouched same = r
   owed = untouched.owed ∙ sym stays;
   editor = untouched.editor;
   stored = same;
-  decoded = λ others are. subst (λ rest. AreDecoded rest others) untouched.rest are;
+  decoded = λ others over are. subst (λ rest. AreDecoded rest others) untouched.rest are;
 }
 
 step_brings : (d : Data) (old new : World) (store store' : StoreState) (step : Step) (answer : Result (Unit {0}) StepFault)
     → StepsTo d old store step answer new store' → StepBrings d old new store store' step answer
 step_brings d old new store store' (Byte b) answer is =
-    byte_brings old.session.editor.ended d is.0 old new store store' b answer refl is.1 (byte_fed d is.0 old new b answer is.2)
+    byte_brings old.session.editor.ended d is.0 old new store store' b answer refl is.1 (byte_pressed d is.0 old new b answer is.2)
 step_brings d old new store store' (Told height width) answer is = told_brings d old new store store' height width answer is.0 is.1
 step_brings d old new store store' (Window height width) answer is =
     nothing_brought d old new store store' (Window height width) answer refl refl (window_untouched old new height width answer is.0) is.1
@@ -328,7 +325,7 @@ record Brought (d : Data) (old new : World) (store store' : StoreState) (all : L
   pub events_are : AreEventsFrom d old.session.painting_owed old.session.editor all events
   pub editor : new.session.editor ≡ after_events d old.session.editor events
   pub stored : store' ≡ stored_after_all d old.session.editor store events
-  pub decoded : AreDecoded old.session.rest events
+  pub decoded : AreDecoded old.rest events
 
 brought : (d : Data) (old new : World) (store store' : StoreState) (all : List (Step × Result (Unit {0}) StepFault))
     → PlaysTo d old store all new store' → Brought d old new store store' all
@@ -357,7 +354,10 @@ brought d old new store store' (s ∷ more) played =
           ∙ ap (λ (x : Editor). stored_after_all d x played.1 others.events) one.editor
           ∙ ap (λ (x : StoreState). stored_after_all d (after_events d e one.first) x others.events) one.stored
           ∙ sym (stored_both d e store one.first others.events);
-      decoded = one.decoded others.events others.decoded;
+      decoded = one.decoded others.events (λ on.
+          let first = over_step d old.session.painting_owed e s.0 s.1 one.first on one.brings in
+          let left = ap (λ (x : Editor). x.ended) one.editor ∙ first.ended in
+          (over d played.0.session.painting_owed played.0.session.editor more others.events left others.events_are).input) others.decoded;
     }
 
 -- ---- saves that failed
@@ -391,7 +391,7 @@ failed_are d e store (Input byte key applied fault painted ∷ more) low =
       by_save false fault others low = others store low
 
 pub follows_decoded : (d : Data) (old new : World) (store store' : StoreState) (all : List (Step × Result (Unit {0}) StepFault))
-    → PlaysTo d old store all new store' → (events : List Event) × Follows d old store all new store' events × AreDecoded old.session.rest events
+    → PlaysTo d old store all new store' → (events : List Event) × Follows d old store all new store' events × AreDecoded old.rest events
 follows_decoded d old new store store' all played =
     let b = brought d old new store store' all played in
     let i = has_input d old.session.painting_owed old.session.editor all b.events b.events_are in
@@ -402,7 +402,7 @@ follows_decoded d old new store store' all played =
       record {
         events_are = b.events_are;
         input = (i.dropped, i.bytes, λ some. ap (λ (e : Editor). e.ended) b.editor ∙ i.drops some);
-        keys = decoded_keys old.session.rest b.events b.decoded;
+        keys = decoded_keys old.rest b.events b.decoded;
         as_whole = λ none. decoded_behind [] b.events (subst (λ rest. AreDecoded rest b.events) none b.decoded);
         editor = b.editor;
         stored = b.stored;

@@ -3,10 +3,10 @@ use Rattle.std.proofs.Common.{◌≡◌, ℕ, zero, suc, Bool, true, false, List
 use Rattle.std.proofs.Common.{refl, sym, ap, subst, ◌∙◌, if◌then◌else◌}
 use Rattle.std.specs.Prelude.{IfSome, IsSome, OnOk, OnErr, ◌&&◌, ◌==◌, ◌≢◌, option_map}
 use Rattle.bx_common.specs.declared.base.Base.{Base}
-use Rattle.bx_keys.specs.Keys.{rest_after}
-use Rattle.bx_keys.specs.Waiting.{head_of}
 use Rattle.bx_grid.specs.declared.error.GridError.TheVariants as grid
 use Rattle.bx_grid.specs.Picture.{PictureState}
+use Rattle.bx_keys.specs.declared.key.Key.{Key}
+use Rattle.bx_keys.specs.Keys.{head_of, rest_after}
 use Rattle.bx_grid.specs.Terminal.{Terminal, reads, after_resize, unknown_terminal}
 use Rattle.bx_store.specs.declared.store.StoreFault.{StoreFault}
 use Rattle.bx_ucd.specs.Data.{Data}
@@ -17,28 +17,29 @@ use Rattle.bx_editor.specs.declared.scrolling.Scroll.{Scroll}
 use Rattle.bx_session.specs.declared.status.Refused.{Refused}
 use Rattle.bx_session.specs.declared.status.Refused.TheVariants as refused
 use Rattle.bx_session.specs.declared.status.Status.{Status}
-use Rattle.bx_session.specs.Session.{Session, at_opening, after_spending, after_byte, owing_after_byte, is_painted, unpainted_after_byte}
-use Rattle.bx_session.specs.Session.{painted_after, key_of_byte, needs_painting, owing_after_told, after_sending, with_clipboard}
-use Rattle.bx_session.specs.Session.{StoreState, StoreAfter, is_save_byte, scroll_behind, text_to_save, with_settings}
-use Rattle.bx_session.specs.Feeding.{SessionState, Feeds, ToldBy}
-use Rattle.bx_session.specs.Painting.{QueuesPicture, FeedPaints, ToldPaints}
-use Rattle.bx_session.proofs.Quiet.{quiet_byte, quiet_shows}
+use Rattle.bx_session.specs.Session.{Session, at_opening, after_press, owing_after_press, is_painted_press, unpainted_after_press}
+use Rattle.bx_session.specs.Session.{painted_after, counted_key, needs_painting, owing_after_told, after_sending, with_clipboard}
+use Rattle.bx_session.specs.Session.{StoreState, StoreAfter, is_save_press, scroll_behind, text_to_save, with_settings}
+use Rattle.bx_session.specs.Feeding.{SessionState, Presses, ToldBy}
+use Rattle.bx_session.specs.Painting.{QueuesPicture, PressPaints, ToldPaints}
+use Rattle.bx_session.proofs.Quiet.{quiet_press, quiet_shows}
 use Rattle.bx_session.proofs.Shown.{always_shows, no_need}
 use Rattle.bx_session.proofs.Tops.{clipboard_unseen, input_unseen}
 use Rattle.bx_world.specs.declared.step.StepFault.{StepFault}
 use Rattle.bx_world.specs.declared.step.StepFault.TheVariants as faults
 use Rattle.bx_world.specs.Answers.{answer_of, mark_after}
 use Rattle.bx_world.specs.World.{is_applied, AfterByteStep, AfterToldStep, AfterReadStep, World, with_byte, with_told_size, told_after_key}
-use Rattle.bx_world.specs.World.{around, is_window, after_send}
+use Rattle.bx_world.specs.World.{around, is_window, after_send, after_decoding, press_of}
 use Rattle.bx_world.specs.declared.world.World.TheInside.{Inside}
 use Rattle.bx_world.specs.Showing.{CursorStands, IsInStep, WorldState}
-use Rattle.bx_world.proofs.Keys.{spent, byte_keeps, byte_pending, both, same_number}
+use Rattle.bx_world.proofs.Keys.{press_keeps, press_pending, both, same_number}
 use Rattle.bx_world.proofs.Steps.{opened, kept, painted, resized, sent, received, failed}
 
 -- the value of a world's fields
 abbrev pub value_of : {D : Type 0} → Inside D → World
 value_of w = record {
   session = w.session.session;
+  rest = w.decoder;
   line = w.line.items;
   height = w.height;
   width = w.width;
@@ -50,43 +51,47 @@ value_of w = record {
 
 -- a session that was opened, and then told its settings
 pub opened_is : {D : Type 0} (ucd : D → Data) (first s : SessionState D) (tables : D) (text : List ℕ) (height width : ℕ) (base : Base)
-    (settings : SettingsState) (line : List ℕ) (screen : Option Terminal)
+    (settings : SettingsState) (rest line : List ℕ) (screen : Option Terminal)
     → first ≡ record { tables = tables; session = at_opening (ucd tables) text height width base } → s.tables ≡ first.tables
     → s.session ≡ with_settings (ucd first.tables) first.session settings → QueuesPicture (ucd first.tables) [] None s.session
-    → line ≡ [] → screen ≡ Some (unknown_terminal height width)
+    → rest ≡ [] → line ≡ [] → screen ≡ Some (unknown_terminal height width)
     → IsInStep (ucd s.tables) (record {
       session = s.session;
+      rest = rest;
       line = line;
       height = height;
       width = width;
       screen = screen;
       told = true;
     })
-opened_is {D} ucd first s tables text height width base settings line screen is kept set queued empty shown =
-    rw (empty, shown) (opened (ucd s.tables) s.session height width (subst (λ t. QueuesPicture (ucd t) [] None s.session) (sym kept) queued) (
+opened_is {D} ucd first s tables text height width base settings rest line screen is kept set queued idle empty shown =
+    rw (idle, empty, shown) (opened (ucd s.tables) s.session height width (subst (λ t. QueuesPicture (ucd t) [] None s.session) (sym kept) queued) (
       ap (λ (x : Session). x.editor.height) set ∙ ap (λ (x : SessionState D). x.session.editor.height) is,
       ap (λ (x : Session). x.editor.width) set ∙ ap (λ (x : SessionState D). x.session.editor.width) is,
     ))
 
 pub opened_world : {D : Type 0} (ucd : D → Data) (first s : SessionState D) (tables : D) (text : List ℕ) (height width : ℕ) (base : Base)
-    (settings : SettingsState) (line : List ℕ) (screen : Option Terminal) (w : WorldState D)
-    → w ≡ record { tables = s.tables; world = record { session = s.session; line = line; height = height; width = width; screen = screen; told = true } }
+    (settings : SettingsState) (rest line : List ℕ) (screen : Option Terminal) (w : WorldState D)
+    → w ≡ record {
+      tables = s.tables;
+      world = record { session = s.session; rest = rest; line = line; height = height; width = width; screen = screen; told = true };
+    }
     → first ≡ record { tables = tables; session = at_opening (ucd tables) text height width base } → s.tables ≡ first.tables
-    → s.session ≡ with_settings (ucd first.tables) first.session settings → line ≡ [] → screen ≡ Some (unknown_terminal height width)
+    → s.session ≡ with_settings (ucd first.tables) first.session settings → rest ≡ [] → line ≡ [] → screen ≡ Some (unknown_terminal height width)
     → w ≡ record { tables = tables; world = around (with_settings (ucd tables) (at_opening (ucd tables) text height width base) settings) height width }
-opened_world {D} ucd first s tables text height width base settings line screen w view is kept set empty shown =
-    let made : Session → List ℕ → Option Terminal → D → WorldState D = λ x l t d. record {
+opened_world {D} ucd first s tables text height width base settings rest line screen w view is kept set idle empty shown =
+    let made : Session → List ℕ → List ℕ → Option Terminal → D → WorldState D = λ x r l t d. record {
       tables = d;
-      world = record { session = x; line = l; height = height; width = width; screen = t; told = true };
+      world = record { session = x; rest = r; line = l; height = height; width = width; screen = t; told = true };
     } in
-    let from : s.session ≡ with_settings (ucd tables) (at_opening (ucd tables) text height width base) settings =
-    set ∙ ap (λ (x : SessionState D). with_settings (ucd x.tables) x.session settings) is in
+    let told : Session = with_settings (ucd tables) (at_opening (ucd tables) text height width base) settings in
+    let from : s.session ≡ told = set ∙ ap (λ (x : SessionState D). with_settings (ucd x.tables) x.session settings) is in
     view
-    ∙ ap (λ x. made x line screen s.tables) from
-    ∙ ap (λ l. made (with_settings (ucd tables) (at_opening (ucd tables) text height width base) settings) l screen s.tables) empty
-    ∙ ap (λ t. made (with_settings (ucd tables) (at_opening (ucd tables) text height width base) settings) [] t s.tables) shown
-    ∙ ap (λ d. made (with_settings (ucd tables) (at_opening (ucd tables) text height width base) settings) [] (Some (unknown_terminal height width)) d)
-    (kept ∙ ap (λ (x : SessionState D). x.tables) is)
+    ∙ ap (λ x. made x rest line screen s.tables) from
+    ∙ ap (λ r. made told r line screen s.tables) idle
+    ∙ ap (λ l. made told [] l screen s.tables) empty
+    ∙ ap (λ t. made told [] [] t s.tables) shown
+    ∙ ap (λ d. made told [] [] (Some (unknown_terminal height width)) d) (kept ∙ ap (λ (x : SessionState D). x.tables) is)
 
 -- ---- a clipboard
 
@@ -116,100 +121,119 @@ clipboard_call {D} ucd old new w same is was =
     subst (λ (x : SessionState D). IsInStep (ucd x.tables) (record w { session = x.session })) (sym is)
     (subst (λ (s : Session). IsInStep (ucd old.tables) (record w { session = with_clipboard s })) same (clipboard_in_step (ucd old.tables) w was))
 
--- ---- a byte
+-- ---- a press
 
-spent_cursor : (ended : Bool) (d : Data) (s : Session) (rest : List ℕ) → CursorStands d s → CursorStands d (if ended then s else record s { rest = rest })
-spent_cursor true d s rest h = h
-spent_cursor false d s rest h = h
-
--- a byte that was spent alone
-pub spent_in_step : (d : Data) (w : World) (b : ℕ) (told : Bool) → IsInStep d w → (told ≡ true → w.told ≡ true)
-    → IsInStep d (record w { session = after_spending w.session b; told = told })
-spent_in_step d w b told was stays =
-    let s = spent w.session b in
-    kept d w (after_spending w.session b) told was s.pending (always_shows.refused_key d w.session b was.state)
-    (spent_cursor w.session.editor.ended d w.session (head_of (rest_after w.session.rest b)) was.cursor)
-    (λ on. known w.session.known (after_spending w.session b).known (sym s.known) (stays on))
-    (λ on. rw s.editor (was.size (stays on))) where
-      known : (old new : Option PictureState) → old ≡ new → w.told ≡ true → IfSome new (λ p. (w.told ≡ true) × (old ≡ Some p))
-      known old None is on = tt
-      known old (Some p) is on = (on, is)
-
--- its key was applied, and its painting is owed
-pub owing_in_step : (d : Data) (fault : Option StoreFault) (w : World) (b : ℕ) → IsInStep d w → IsInStep d (with_byte w b (owing_after_byte d fault w.session b))
-owing_in_step d fault w b was =
-    let keeps = byte_keeps d fault w b in
-    kept d w (owing_after_byte d fault w.session b) (told_after_key w (key_of_byte w.session b)) was (byte_pending d fault w.session b)
-    (always_shows.owing_byte d fault w.session b) (λ owed. absurd (cc owed)) keeps.known (λ on. keeps.size was.size on)
+-- a press that leaves this session
+abbrev with_press : World → Option Key → Session → World
+with_press w key s = record w { session = s; told = told_after_key w (counted_key w.session key) }
 
 -- how its key scrolls
-abbrev scroll_at : Session → ℕ → Scroll
-scroll_at s b = scroll_behind s.editor (key_of_byte s b)
+abbrev scroll_at : Session → Option Key → Scroll
+scroll_at s key = scroll_behind s.editor (counted_key s key)
+
+-- its key was applied, and its painting is owed
+pub owing_in_step : (d : Data) (fault : Option StoreFault) (w : World) (key : Option Key) → IsInStep d w
+    → IsInStep d (with_press w key (owing_after_press d fault w.session key))
+owing_in_step d fault w key was =
+    let keeps = press_keeps d fault w key in
+    kept d w (owing_after_press d fault w.session key) (told_after_key w (counted_key w.session key)) was (press_pending d fault w.session key)
+    (always_shows.owing_press d fault w.session key) (λ owed. absurd (cc owed)) keeps.known (λ on. keeps.size was.size on)
 
 -- its key was applied and painted
-pub fed_in_step : (d : Data) (fault : Option StoreFault) (w : World) (b : ℕ) (new : Session) → IsInStep d w
-    → new ≡ painted_after d (scroll_at w.session b) (unpainted_after_byte d fault w.session b) (key_of_byte w.session b) → FeedPaints d w.session b new
-    → IsInStep d (with_byte w b new)
-fed_in_step d fault w b new was is queued =
-    painted d w new (told_after_key w (key_of_byte w.session b)) (unpainted_after_byte d None w.session b).known was queued
-    (byte_keeps d None w b).known
-    (λ on. rw is ((byte_keeps d fault w b).size was.size on))
+pub painted_in_step : (d : Data) (fault : Option StoreFault) (w : World) (key : Option Key) (new : Session) → IsInStep d w
+    → new ≡ painted_after d (scroll_at w.session key) (unpainted_after_press d fault w.session key) (counted_key w.session key)
+    → PressPaints d w.session key new → IsInStep d (with_press w key new)
+painted_in_step d fault w key new was is queued =
+    painted d w new (told_after_key w (counted_key w.session key)) (unpainted_after_press d None w.session key).known was queued
+    (press_keeps d None w key).known
+    (λ on. rw is ((press_keeps d fault w key).size was.size on))
 
 -- its key was applied, and needs no painting
-quiet_in_step : (d : Data) (fault : Option StoreFault) (w : World) (b : ℕ) → IsInStep d w → is_painted w.session b ≡ false
-    → IsInStep d (with_byte w b (unpainted_after_byte d fault w.session b))
-quiet_in_step d fault w b was none =
+quiet_in_step : (d : Data) (fault : Option StoreFault) (w : World) (key : Option Key) → IsInStep d w → is_painted_press w.session key ≡ false
+    → IsInStep d (with_press w key (unpainted_after_press d fault w.session key))
+quiet_in_step d fault w key was none =
     let s = w.session in
-    let keeps = byte_keeps d fault w b in
-    let need = no_need s.painting_owed (needs_painting s.editor (key_of_byte s b)) none in
-    let quiet = quiet_byte d fault s b need.1 in
-    kept d w (unpainted_after_byte d fault s b) (told_after_key w (key_of_byte s b)) was quiet.pending
-    (quiet_shows d s (unpainted_after_byte d fault s b) quiet was.state)
+    let keeps = press_keeps d fault w key in
+    let need = no_need s.painting_owed (needs_painting s.editor (counted_key s key)) none in
+    let quiet = quiet_press d fault s key need.1 in
+    kept d w (unpainted_after_press d fault s key) (told_after_key w (counted_key s key)) was quiet.pending
+    (quiet_shows d s (unpainted_after_press d fault s key) quiet was.state)
     (λ owed on nowhere. quiet.editor.stands (was.cursor need.0 (sym quiet.editor.ended ∙ on) (sym quiet.editor.column ∙ nowhere)))
     keeps.known (λ on. keeps.size was.size on)
 
-fed : (d : Data) (fault : Option StoreFault) (w : World) (b : ℕ) (new : Session) → IsInStep d w → new ≡ after_byte d fault w.session b
-    → (is_painted w.session b ≡ true → FeedPaints d w.session b new) → IsInStep d (with_byte w b new)
-fed d fault w b new was is paints = by_painting (is_painted w.session b) refl is where
+pressed : (d : Data) (fault : Option StoreFault) (w : World) (key : Option Key) (new : Session) → IsInStep d w → new ≡ after_press d fault w.session key
+    → (is_painted_press w.session key ≡ true → PressPaints d w.session key new) → IsInStep d (with_press w key new)
+pressed d fault w key new was is paints = by_painting (is_painted_press w.session key) refl is where
   u : Session
-  u = unpainted_after_byte d fault w.session b
+  u = unpainted_after_press d fault w.session key
 
-  by_painting : (painted : Bool) → is_painted w.session b ≡ painted
-      → new ≡ (if painted then painted_after d (scroll_at w.session b) u (key_of_byte w.session b) else u) → IsInStep d (with_byte w b new)
-  by_painting true prompts same = fed_in_step d fault w b new was same (paints prompts)
-  by_painting false none same = rw same (quiet_in_step d fault w b was none)
+  by_painting : (painted : Bool) → is_painted_press w.session key ≡ painted
+      → new ≡ (if painted then painted_after d (scroll_at w.session key) u (counted_key w.session key) else u) → IsInStep d (with_press w key new)
+  by_painting true prompts same = painted_in_step d fault w key new was same (paints prompts)
+  by_painting false none same = rw same (quiet_in_step d fault w key was none)
 
-pub byte_in_step : (d : Data) (w : World) (new : Session) (store store' : StoreState) (b : ℕ) (answer : Result Status Refused) → IsInStep d w
-    → Feeds d w.session store b answer new store' → (is_painted w.session b ≡ true → OnOk answer (FeedPaints d w.session b new))
-    → IsInStep d (record w { session = new; told = mark_after w.told (told_after_key w (key_of_byte w.session b)) answer })
-byte_in_step d w new store store' b (Ok status) was feeds paints = fed d feeds.0 w b new was feeds.2.0 paints
-byte_in_step d w new store store' b (Err refused.Edit) was feeds paints = rw feeds.2.0 (spent_in_step d w b w.told was (λ on. on))
-byte_in_step d w new store store' b (Err refused.Paint) was feeds paints = rw feeds.2.0 (owing_in_step d feeds.0 w b was)
-byte_in_step d w new store store' b (Err refused.Size) was feeds paints = absurd feeds.2
+pub press_in_step : (d : Data) (w : World) (new : Session) (store store' : StoreState) (key : Option Key) (answer : Result Status Refused)
+    → IsInStep d w → Presses d w.session store key answer new store'
+    → (is_painted_press w.session key ≡ true → OnOk answer (PressPaints d w.session key new))
+    → IsInStep d (record w { session = new; told = mark_after w.told (told_after_key w (counted_key w.session key)) answer })
+press_in_step d w new store store' key (Ok status) was presses paints = pressed d presses.0 w key new was presses.2.0 paints
+press_in_step d w new store store' key (Err refused.Edit) was presses paints = rw presses.2.0 was
+press_in_step d w new store store' key (Err refused.Paint) was presses paints = rw presses.2.0 (owing_in_step d presses.0 w key was)
+press_in_step d w new store store' key (Err refused.Size) was presses paints = absurd presses.2
 
-pub byte_call : {D : Type 0} (ucd : D → Data) (tables tables' : D) (w : World) (new : Session) (store store' : StoreState) (b : ℕ)
-    (answer : Result Status Refused) (told : Bool) → tables' ≡ tables → told ≡ mark_after w.told (told_after_key w (key_of_byte w.session b)) answer
-    → IsInStep (ucd tables) w → Feeds (ucd tables) w.session store b answer new store'
-    → (is_painted w.session b ≡ true → OnOk answer (FeedPaints (ucd tables) w.session b new))
-    → IsInStep (ucd tables') (record w { session = new; told = told })
-byte_call ucd tables tables' w new store store' b answer told same is was feeds paints =
-    rw (same, is) (byte_in_step (ucd tables) w new store store' b answer was feeds paints)
+-- ---- a byte
 
-byte_answer : (d : Data) (w : World) (new : Session) (store store' : StoreState) (b : ℕ) (answer : Result Status Refused)
-    → Feeds d w.session store b answer new store'
-    → (fault : Option StoreFault) × StoreAfter (is_applied (answer_of answer) && is_save_byte w.session b) fault (text_to_save d w.session.editor) store store'
-    × AfterByteStep d fault w b (answer_of answer) (record w { session = new; told = mark_after w.told (told_after_key w (key_of_byte w.session b)) answer })
-byte_answer d w new store store' b (Ok status) feeds = (feeds.0, feeds.1, ap (λ (s : Session). with_byte w b s) feeds.2.0)
-byte_answer d w new store store' b (Err refused.Edit) feeds = (feeds.0, feeds.1, (ap (λ (s : Session). record w { session = s }) feeds.2.0, feeds.2.1))
-byte_answer d w new store store' b (Err refused.Paint) feeds = (feeds.0, feeds.1, (ap (λ (s : Session). with_byte w b s) feeds.2.0, feeds.2.1))
-byte_answer d w new store store' b (Err refused.Size) feeds = absurd feeds.2
+-- whatever waits of the input
+waits_in_step : (d : Data) (w : World) (rest : List ℕ) → IsInStep d w → IsInStep d (record w { rest = rest })
+waits_in_step d w rest was = record {
+  state = was.state;
+  cursor = was.cursor;
+  follows = was.follows;
+  whole = was.whole;
+  screen = was.screen;
+  size = was.size;
+}
 
-pub byte_steps : (d : Data) (w : World) (new : Session) (store store' : StoreState) (b : ℕ) (answer : Result Status Refused)
-    (result : Result (Unit {0}) StepFault) (told : Bool) → result ≡ answer_of answer
-    → told ≡ mark_after w.told (told_after_key w (key_of_byte w.session b)) answer → Feeds d w.session store b answer new store'
-    → (fault : Option StoreFault) × StoreAfter (is_applied result && is_save_byte w.session b) fault (text_to_save d w.session.editor) store store'
-    × AfterByteStep d fault w b result (record w { session = new; told = told })
-byte_steps d w new store store' b answer result told same is feeds = rw (same, is) (byte_answer d w new store store' b answer feeds)
+pub byte_in_step : (d : Data) (w : World) (new : Session) (rest : List ℕ) (store store' : StoreState) (key : Option Key)
+    (answer : Result Status Refused) → IsInStep d w → Presses d w.session store key answer new store'
+    → (is_painted_press w.session key ≡ true → OnOk answer (PressPaints d w.session key new))
+    → IsInStep d (record w { session = new; rest = rest; told = mark_after w.told (told_after_key w (counted_key w.session key)) answer })
+byte_in_step d w new rest store store' key answer was presses paints =
+    press_in_step d (record w { rest = rest }) new store store' key answer (waits_in_step d w rest was) presses paints
+
+pub byte_call : {D : Type 0} (ucd : D → Data) (tables tables' : D) (w : World) (new : Session) (rest : List ℕ) (store store' : StoreState)
+    (key : Option Key) (answer : Result Status Refused) (told : Bool) → tables' ≡ tables
+    → told ≡ mark_after w.told (told_after_key w (counted_key w.session key)) answer
+    → IsInStep (ucd tables) w → Presses (ucd tables) w.session store key answer new store'
+    → (is_painted_press w.session key ≡ true → OnOk answer (PressPaints (ucd tables) w.session key new))
+    → IsInStep (ucd tables') (record w { session = new; rest = rest; told = told })
+byte_call ucd tables tables' w new rest store store' key answer told same is was presses paints =
+    rw (same, is) (byte_in_step (ucd tables) w new rest store store' key answer was presses paints)
+
+-- the world after a byte, by what the session makes of its press
+abbrev pub pressed_world : World → ℕ → Session → Result Status Refused → World
+pressed_world w b new answer =
+    record (after_decoding w b) { session = new; told = mark_after w.told (told_after_key w (counted_key w.session (press_of w b))) answer }
+
+pub byte_answer : (d : Data) (w : World) (new : Session) (store store' : StoreState) (b : ℕ) (answer : Result Status Refused)
+    → Presses d w.session store (press_of w b) answer new store'
+    → (fault : Option StoreFault) × StoreAfter (is_applied (answer_of answer) && is_save_press w.session (press_of w b)) fault
+    (text_to_save d w.session.editor) store store' × AfterByteStep d fault w b (answer_of answer) (pressed_world w b new answer)
+byte_answer d w new store store' b (Ok status) presses = (presses.0, presses.1, ap (λ (s : Session). with_byte w b s) presses.2.0)
+byte_answer d w new store store' b (Err refused.Edit) presses =
+    (presses.0, presses.1, (ap (λ (s : Session). record (after_decoding w b) { session = s }) presses.2.0, presses.2.1))
+byte_answer d w new store store' b (Err refused.Paint) presses = (presses.0, presses.1, (ap (λ (s : Session). with_byte w b s) presses.2.0, presses.2.1))
+byte_answer d w new store store' b (Err refused.Size) presses = absurd presses.2
+
+pub byte_steps : (d : Data) (w : World) (new : Session) (rest : List ℕ) (store store' : StoreState) (b : ℕ) (key : Option Key)
+    (answer : Result Status Refused) (result : Result (Unit {0}) StepFault) (told : Bool) → rest ≡ head_of (rest_after w.rest b) → key ≡ press_of w b
+    → result ≡ answer_of answer → told ≡ mark_after w.told (told_after_key w (counted_key w.session key)) answer
+    → Presses d w.session store key answer new store'
+    → (fault : Option StoreFault) × StoreAfter (is_applied result && is_save_press w.session (press_of w b)) fault
+    (text_to_save d w.session.editor) store store' × AfterByteStep d fault w b result (record w { session = new; rest = rest; told = told })
+byte_steps d w new rest store store' b key answer result told waits gives same is presses =
+    rw (waits, same, is ∙ ap (λ k. mark_after w.told (told_after_key w (counted_key w.session k)) answer) gives)
+    (byte_answer d w new store store' b answer (subst (λ k. Presses d w.session store k answer new store') gives presses))
 
 -- ---- a told size
 

@@ -162,23 +162,23 @@ a_failed_save_is_counted contents store' new clause count =
     found.1.failures (subst (λ n. n < greatest) (sym count) (lit< tt)) in
     omega (arith, count, all)
 
--- from any world that has such a session
-pub a_byte_follows : (w : World) (store store' : StoreState) (new : World) → w.session ≡ opened []
+-- from any world that has such a session, and in which no byte waits
+pub a_byte_follows : (w : World) (store store' : StoreState) (new : World) → w.session ≡ opened [] → w.rest ≡ []
     → (events : List Event) × Follows tables w store ((Byte 0x61, ok) ∷ []) new store' events → new.session.editor.content.text ≡ codes "a"
-a_byte_follows w store store' new is found =
+a_byte_follows w store store' new is idle found =
     let f = found.1 in
     let editor : w.session.editor ≡ empty = ap (λ (s : Session). s.editor) is in
     ap (λ (e : Editor). e.content.text) f.editor
     ∙ ap (λ (e : Editor). (after_events tables e found.0).content.text) editor
     ∙ one_letter found.0 (keys_from []) refl
     (subst (λ (s : Session). AreEventsFrom tables s.painting_owed s.editor ((Byte 0x61, ok) ∷ []) found.0) is f.events_are)
-    (f.keys ∙ ap (λ (s : Session). keys_from s.rest (input_of found.0)) is)
+    (f.keys ∙ ap (λ rest. keys_from rest (input_of found.0)) idle)
 
 -- ---- a promised picture
 
 -- `ab` is painted in 22 bytes, which are on the line
 abbrev promised : World
-promised = after_send (begins_at (start (codes "ab") 1 5) (unknown_terminal 1 5)) 22
+promised = after_send (begins_at [] (start (codes "ab") 1 5) (unknown_terminal 1 5)) 22
 
 promised_length : length (unread promised) ≡ 22
 unfolding unicode_segmentation unicode_width digits

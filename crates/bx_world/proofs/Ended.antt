@@ -23,7 +23,7 @@ input_both (Telling height width painted ∷ first) others = input_both first ot
 -- ---- after the end
 
 -- no byte is among these events, and the session has ended
-record IsOver (d : Data) (e : Editor) (events : List Event) : Type 0 where
+pub record IsOver (d : Data) (e : Editor) (events : List Event) : Type 0 where
   pub input : input_of events ≡ []
   pub ended : (after_events d e events).ended ≡ true
 
@@ -35,7 +35,7 @@ over_told : (d : Data) (e : Editor) (height width : ℕ) (sized painted : Bool) 
 over_told d e height width true painted events on is = record { input = ap input_of is; ended = ap (λ xs. (after_events d e xs).ended) is ∙ on }
 over_told d e height width false painted events on is = over_none d e events on is
 
-over_step : (d : Data) (owed : Bool) (e : Editor) (step : Step) (answer : Result (Unit {0}) StepFault) (events : List Event) → e.ended ≡ true
+pub over_step : (d : Data) (owed : Bool) (e : Editor) (step : Step) (answer : Result (Unit {0}) StepFault) (events : List Event) → e.ended ≡ true
     → Brings owed e step answer events → IsOver d e events
 over_step d owed e (Byte b) answer events on brings =
     over_none d e events on (subst (λ ended. BringsByte ended owed e b answer events) on brings)
@@ -48,7 +48,7 @@ over_step d owed e (Read count) answer events on brings = over_none d e events o
 none_both : (xs ys : List ℕ) → xs ≡ [] → ys ≡ [] → xs ++ ys ≡ []
 none_both xs ys a b = rw (a, b) refl
 
-over : (d : Data) (owed : Bool) (e : Editor) (all : List (Step × Result (Unit {0}) StepFault)) (events : List Event) → e.ended ≡ true
+pub over : (d : Data) (owed : Bool) (e : Editor) (all : List (Step × Result (Unit {0}) StepFault)) (events : List Event) → e.ended ≡ true
     → AreEventsFrom d owed e all events → IsOver d e events
 over d owed e [] events on are = over_none d e events on are
 over d owed e (s ∷ more) events on are =

@@ -8,18 +8,18 @@ use Rattle.bx_ucd.specs.Data.{Data}
 use Rattle.bx_editor.specs.Editor.{Editor}
 use Rattle.bx_editor.specs.Keys.{after_key}
 use Rattle.bx_session.specs.declared.status.Refused.TheVariants as refused
-use Rattle.bx_session.specs.Session.{StoreState, Session, key_of_byte, after_byte, is_painted, owing_after_byte, scroll_behind}
+use Rattle.bx_session.specs.Session.{StoreState, Session, after_press, counted_key, is_painted_press, owing_after_press, scroll_behind}
 use Rattle.bx_session.proofs.KeySizes.{SameSize}
 use Rattle.bx_world.specs.declared.step.Step.{Step}
 use Rattle.bx_world.specs.declared.step.Step.TheVariants.{Byte, Window, Told, Send, Read}
 use Rattle.bx_world.specs.declared.step.StepFault.{StepFault}
 use Rattle.bx_world.specs.declared.step.StepFault.TheVariants as faults
-use Rattle.bx_world.specs.World.{World, told_after, with_byte, AfterByteStep, AfterSendStep, AfterReadStep, StepsTo, PlaysTo}
+use Rattle.bx_world.specs.World.{World, press_of, told_after, with_byte, AfterByteStep, AfterSendStep, AfterReadStep, StepsTo, PlaysTo}
 use Rattle.bx_editor.specs.declared.scrolling.Scroll.{Scroll}
 use Rattle.bx_world.specs.Events.{after_input, painted_if}
 use Rattle.bx_world.specs.Runs.{Schedule}
 use Rattle.bx_grid.specs.declared.error.GridError.TheVariants as grid
-use Rattle.bx_world.proofs.Brought.{byte_fed}
+use Rattle.bx_world.proofs.Brought.{byte_pressed}
 use Rattle.bx_world.proofs.Keys.{IsOther, IsTelling, kind_of_key}
 
 -- the window has the editor's size
@@ -42,37 +42,32 @@ input_fits : (d : Data) (fault : Option StoreFault) (height width : ℕ) (told :
 input_fits d fault height width told e None was = was
 input_fits d fault height width told e (Some key) was = key_fits d fault height width told e key was
 
-refused_fits : (d : Data) (fault : Option StoreFault) (e : Editor) (key : Option Key) → e ≡ after_input d false fault e key
-refused_fits d fault e None = refl
-refused_fits d fault e (Some key) = refl
-
 -- ---- steps that change no window and tell nothing
 
 abbrev pub Fits : World → Type 0
 Fits w = w.told ≡ fits w.height w.width w.session.editor
 
-fed_fits : (d : Data) (fault : Option StoreFault) (old : World) (b : ℕ) (s : Session) (painted : Bool) (scroll : Scroll) → Fits old
-    → s.editor ≡ painted_if painted d scroll (after_input d true fault old.session.editor (key_of_byte old.session b)) → Fits (with_byte old b s)
-fed_fits d fault old b s painted scroll was is =
-    input_fits d fault old.height old.width old.told old.session.editor (key_of_byte old.session b) was
+-- the key of a byte, as it counts
+abbrev key_at : World → ℕ → Option Key
+key_at w b = counted_key w.session (press_of w b)
+
+applied_fits : (d : Data) (fault : Option StoreFault) (old : World) (b : ℕ) (s : Session) (painted : Bool) (scroll : Scroll) → Fits old
+    → s.editor ≡ painted_if painted d scroll (after_input d true fault old.session.editor (key_at old b)) → Fits (with_byte old b s)
+applied_fits d fault old b s painted scroll was is =
+    input_fits d fault old.height old.width old.told old.session.editor (key_at old b) was
     ∙ ap (λ (e : Editor). fits old.height old.width e) (sym is)
 
 byte_fits : (d : Data) (fault : Option StoreFault) (old new : World) (b : ℕ) (answer : Result (Unit {0}) StepFault) → AfterByteStep d fault old b answer new
     → Fits old → Fits new
 byte_fits d fault old new b (Ok done) is was =
-    let fed = byte_fed d fault old new b (Ok done) is in
-    subst Fits (sym is) (fed_fits d fault old b (after_byte d fault old.session b) (is_painted old.session b)
-    (scroll_behind old.session.editor (key_of_byte old.session b)) was (ap (λ (w : World). w.session.editor) (sym is) ∙ fed.editor))
+    let pressed = byte_pressed d fault old new b (Ok done) is in
+    subst Fits (sym is) (applied_fits d fault old b (after_press d fault old.session (press_of old b)) (is_painted_press old.session (press_of old b))
+    (scroll_behind old.session.editor (key_at old b)) was (ap (λ (w : World). w.session.editor) (sym is) ∙ pressed.editor))
 byte_fits d fault old new b (Err (faults.Session refused.Paint)) is was =
-    let fed = byte_fed d fault old new b (Err (faults.Session refused.Paint)) is in
-    subst Fits (sym is.0) (fed_fits d fault old b (owing_after_byte d fault old.session b) false
-    (scroll_behind old.session.editor (key_of_byte old.session b)) was (ap (λ (w : World). w.session.editor) (sym is.0) ∙ fed.editor))
-byte_fits d fault old new b (Err (faults.Session refused.Edit)) is was =
-    let fed = byte_fed d fault old new b (Err (faults.Session refused.Edit)) is in
-    let same : new.session.editor ≡ old.session.editor = fed.editor ∙ sym (refused_fits d fault old.session.editor (key_of_byte old.session b)) in
-    ap (λ (w : World). w.told) is.0 ∙ was
-    ∙ ap (λ (e : Editor). fits old.height old.width e) (sym same)
-    ∙ ap (λ (w : World). fits w.height w.width new.session.editor) (sym is.0)
+    let pressed = byte_pressed d fault old new b (Err (faults.Session refused.Paint)) is in
+    subst Fits (sym is.0) (applied_fits d fault old b (owing_after_press d fault old.session (press_of old b)) false
+    (scroll_behind old.session.editor (key_at old b)) was (ap (λ (w : World). w.session.editor) (sym is.0) ∙ pressed.editor))
+byte_fits d fault old new b (Err (faults.Session refused.Edit)) is was = subst Fits (sym is.0) was
 byte_fits d fault old new b (Err (faults.Session refused.Size)) is was = absurd is
 byte_fits d fault old new b (Err (faults.Screen _)) is was = absurd is
 byte_fits d fault old new b (Err faults.Line) is was = absurd is

@@ -1,17 +1,15 @@
 -- What a key leaves of the window's size, of the mark of the last telling, and of what is known of the screen.
-use Rattle.std.proofs.Common.{◌≡◌, ℕ, Bool, true, false, List, ◌⊎◌, inl, inr, Option, Some, None, refl, sym, subst, ◌∙◌, arith, if◌then◌else◌}
+use Rattle.std.proofs.Common.{◌≡◌, ℕ, Bool, true, false, ◌⊎◌, inl, inr, Option, Some, None, refl, sym, subst, ◌∙◌, arith, if◌then◌else◌}
 use Rattle.std.specs.Prelude.{IfSome, ◌||◌, ◌&&◌, ◌==◌}
 use Rattle.std.proofs.lemmas.Bool.Decides.{nat_tests}
 use Rattle.bx_keys.specs.declared.key.Key.{Key}
 use Rattle.bx_keys.specs.declared.key.Key.TheVariants.{Size}
-use Rattle.bx_keys.specs.Keys.{rest_after}
-use Rattle.bx_keys.specs.Waiting.{head_of}
 use Rattle.bx_grid.specs.Picture.{PictureState}
 use Rattle.bx_store.specs.declared.store.StoreFault.{StoreFault}
 use Rattle.bx_ucd.specs.Data.{Data}
 use Rattle.bx_editor.specs.Editor.{Editor}
 use Rattle.bx_editor.specs.Keys.{after_key, asks_for_whole}
-use Rattle.bx_session.specs.Session.{Session, session_after_key, session_after_any, after_spending, key_of_byte, unpainted_after_byte}
+use Rattle.bx_session.specs.Session.{Session, session_after_key, session_after_any, counted_key, unpainted_after_press}
 use Rattle.bx_session.proofs.KeySizes.{SameSize, other_size}
 use Rattle.bx_world.specs.World.{World, told_after, told_after_key, is_window}
 use Rattle.bx_world.specs.Showing.{FitsWindow}
@@ -31,7 +29,7 @@ kind_of_key d fault e key = inl (other_size d fault e key refl, λ h w t. refl)
 
 -- ---- what a key leaves of a world's marks
 
--- of the session before the key's effect and the world before the byte: where the size still counts as told, the editor
+-- of the session before the key's effect and the world before the press: where the size still counts as told, the editor
 -- has the window's size, and what is known of the screen is what was known of it
 pub record Keeps (w : World) (s new : Session) (told : Bool) : Type 0 where
   pub size : (w.told ≡ true → FitsWindow w.height w.width s.editor) → told ≡ true → FitsWindow w.height w.width new.editor
@@ -78,37 +76,16 @@ any_keeps : (d : Data) (fault : Option StoreFault) (w : World) (s : Session) (ke
 any_keeps d fault w s None = record { size = λ fits on. fits on; known = λ on. known_if false w.told s.known on }
 any_keeps d fault w s (Some key) = key_keeps d fault w s key
 
--- ---- what a byte leaves
+-- ---- what a press leaves
 
--- a byte that is spent leaves all but what waits
-pub record IsSpent (old new : Session) : Type 0 where
-  pub editor : new.editor ≡ old.editor
-  pub painted : new.painted ≡ old.painted
-  pub known : new.known ≡ old.known
-  pub owed : new.painting_owed ≡ old.painting_owed
-  pub pending : new.pending ≡ old.pending
-
-spent_if : (ended : Bool) (s : Session) (rest : List ℕ) → IsSpent s (if ended then s else record s { rest = rest })
-spent_if true s rest = record { editor = refl; painted = refl; known = refl; owed = refl; pending = refl }
-spent_if false s rest = record { editor = refl; painted = refl; known = refl; owed = refl; pending = refl }
-
-pub spent : (s : Session) (b : ℕ) → IsSpent s (after_spending s b)
-spent s b = spent_if s.editor.ended s (head_of (rest_after s.rest b))
-
--- a byte that is applied, and not yet painted
-pub byte_keeps : (d : Data) (fault : Option StoreFault) (w : World) (b : ℕ)
-    → Keeps w w.session (unpainted_after_byte d fault w.session b) (told_after_key w (key_of_byte w.session b))
-byte_keeps d fault w b =
-    let first = spent w.session b in
-    let then_key = any_keeps d fault w (after_spending w.session b) (key_of_byte w.session b) in record {
-      size = λ fits on. then_key.size (λ told. rw first.editor (fits told)) on;
-      known = λ on. subst (λ painted. IfSome (unpainted_after_byte d fault w.session b).known (λ p. (w.told ≡ true) × (painted ≡ Some p)))
-          first.known (then_key.known on);
-    }
+-- its key is applied, and not yet painted
+pub press_keeps : (d : Data) (fault : Option StoreFault) (w : World) (key : Option Key)
+    → Keeps w w.session (unpainted_after_press d fault w.session key) (told_after_key w (counted_key w.session key))
+press_keeps d fault w key = any_keeps d fault w w.session (counted_key w.session key)
 
 any_pending : (d : Data) (fault : Option StoreFault) (s : Session) (key : Option Key) → (session_after_any d fault s key).pending ≡ s.pending
 any_pending d fault s None = refl
 any_pending d fault s (Some key) = refl
 
-pub byte_pending : (d : Data) (fault : Option StoreFault) (s : Session) (b : ℕ) → (unpainted_after_byte d fault s b).pending ≡ s.pending
-byte_pending d fault s b = any_pending d fault (after_spending s b) (key_of_byte s b) ∙ (spent s b).pending
+pub press_pending : (d : Data) (fault : Option StoreFault) (s : Session) (key : Option Key) → (unpainted_after_press d fault s key).pending ≡ s.pending
+press_pending d fault s key = any_pending d fault s (counted_key s key)

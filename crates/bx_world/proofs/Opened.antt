@@ -8,8 +8,8 @@ use Rattle.bx_editor.specs.Picture.{StandsOnItsCell, picture}
 use Rattle.bx_editor.specs.Status.{input_column}
 use Rattle.bx_common.specs.declared.base.Base.{Base}
 use Rattle.bx_editor.specs.Settings.{SettingsState}
-use Rattle.bx_session.specs.Session.{Session, StoreState}
-use Rattle.bx_session.proofs.Replayed.{rest_from}
+use Rattle.bx_session.specs.Inputs.{rest_from}
+use Rattle.bx_session.specs.Session.{StoreState}
 use Rattle.bx_world.specs.declared.step.Step.{Step}
 use Rattle.bx_world.specs.declared.step.StepFault.{StepFault}
 use Rattle.bx_world.specs.World.{World, PlaysTo, is_last_accepted}
@@ -24,7 +24,7 @@ use Rattle.bx_world.proofs.Schedules.{OwesNot, accepted_owes_nothing, shows_when
 
 -- the headline of what follows from a world as a session begins in it, behind the bytes of a journal
 pub headline_behind : (d : Data) (journal : List ℕ) (old new : World) (store store' : StoreState) (all : List (Step × Result (Unit {0}) StepFault))
-    → PlaysTo d old store all new store' → IsInStep d new → old.session.rest ≡ rest_from [] journal → old.session.painting_owed ≡ false
+    → PlaysTo d old store all new store' → IsInStep d new → old.rest ≡ rest_from [] journal → old.session.painting_owed ≡ false
     → IsSome old.screen → (events : List Event) × Headline d old.session.editor journal store all new store' events
 headline_behind d journal old new store store' all played was rest paid live =
     let found = follows_decoded d old new store store' all played in
@@ -51,22 +51,17 @@ headline_behind d journal old new store store' all played was rest paid live =
       },
     )
 
--- a session that was opened, with a clipboard or without
-record IsFresh (s : Session) : Type 0 where
-  pub rest : s.rest ≡ []
-  pub owed : s.painting_owed ≡ false
-
-with_clipboard_or_not : (d : Data) (text : List ℕ) (height width : ℕ) (base : Base) (settings : SettingsState) (clipboard : Bool)
-    → IsFresh (opened_by d text height width base settings clipboard)
-with_clipboard_or_not d text height width base settings true = record { rest = refl; owed = refl }
-with_clipboard_or_not d text height width base settings false = record { rest = refl; owed = refl }
+-- a session that was opened, with a clipboard or without, owes no painting
+opened_owes : (d : Data) (text : List ℕ) (height width : ℕ) (base : Base) (settings : SettingsState) (clipboard : Bool)
+    → (opened_by d text height width base settings clipboard).painting_owed ≡ false
+opened_owes d text height width base settings true = refl
+opened_owes d text height width base settings false = refl
 
 pub headline_of : (d : Data) (old new : World) (store store' : StoreState) (all : List (Step × Result (Unit {0}) StepFault))
     → PlaysTo d old store all new store' → IsInStep d new → HeadlineFromOpening d old store all new store'
 headline_of d old new store store' all played was text height width base settings clipboard is =
-    let opened = with_clipboard_or_not d text height width base settings clipboard in
-    let found = headline_behind d [] old new store store' all played was (ap (λ (w : World). w.session.rest) is ∙ opened.rest)
-    (ap (λ (w : World). w.session.painting_owed) is ∙ opened.owed) (subst (λ (w : World). IsSome w.screen) (sym is) refl) in
+    let found = headline_behind d [] old new store store' all played was (ap (λ (w : World). w.rest) is)
+    (ap (λ (w : World). w.session.painting_owed) is ∙ opened_owes d text height width base settings clipboard) (subst (λ (w : World). IsSome w.screen) (sym is) refl) in
     (found.0, subst (λ (e : Editor). Headline d e [] store all new store' found.0) (ap (λ (w : World). w.session.editor) is) found.1)
 
 pub headline : {D : Type 0} (ucd : D → Data) (tables tables' : D) (old new : World) (store store' : StoreState)

@@ -12,17 +12,16 @@ use Rattle.bx_store.specs.declared.store.StoreFault.{StoreFault}
 use Rattle.bx_ucd.specs.Data.{Data}
 use Rattle.bx_editor.specs.Picture.{picture}
 use Rattle.bx_keys.specs.declared.key.Key.{Key}
-use Rattle.bx_session.specs.Session.{Session, after_byte, after_spending, is_painted, key_of_byte, needs_painting, painted_after}
-use Rattle.bx_session.specs.Session.{scroll_behind, session_after_any, unpainted_after_byte, StoreState}
+use Rattle.bx_session.specs.Session.{Session, after_press, counted_key, is_painted_press, needs_painting, painted_after}
+use Rattle.bx_session.specs.Session.{scroll_behind, session_after_any, unpainted_after_press, StoreState}
 use Rattle.bx_session.proofs.Shown.{no_need}
 use Rattle.bx_world.specs.declared.step.Step.{Step}
 use Rattle.bx_world.specs.declared.step.Step.TheVariants.{Byte, Window, Told, Send, Read}
 use Rattle.bx_world.specs.declared.step.StepFault.{StepFault}
 use Rattle.bx_world.specs.declared.step.StepFault.TheVariants as faults
 use Rattle.bx_world.specs.World.{World, StepsTo, PlaysTo, AfterByteStep, AfterToldStep, AfterWindowStep, AfterSendStep, AfterReadStep}
-use Rattle.bx_world.specs.World.{accepted_after, is_last_accepted}
+use Rattle.bx_world.specs.World.{accepted_after, is_last_accepted, press_of}
 use Rattle.bx_world.specs.Showing.{AfterAll, IsInStep, WillShow, ShowsWhenRead}
-use Rattle.bx_world.proofs.Keys.{spent}
 
 pub will_show : (d : Data) (w : World) → IsInStep d w → WillShow d w
 will_show d w was told owed = subst (λ painted. IfSome painted (λ p. AfterAll w (λ t. Shows t p))) (was.state owed).1 (was.follows told)
@@ -58,21 +57,25 @@ any_owed : (d : Data) (fault : Option StoreFault) (s : Session) (key : Option Ke
 any_owed d fault s None = refl
 any_owed d fault s (Some key) = refl
 
-unpainted_owed : (d : Data) (fault : Option StoreFault) (s : Session) (b : ℕ) → (unpainted_after_byte d fault s b).painting_owed ≡ s.painting_owed
-unpainted_owed d fault s b = any_owed d fault (after_spending s b) (key_of_byte s b) ∙ (spent s b).owed
+unpainted_owed : (d : Data) (fault : Option StoreFault) (s : Session) (key : Option Key) → (unpainted_after_press d fault s key).painting_owed ≡ s.painting_owed
+unpainted_owed d fault s key = any_owed d fault s (counted_key s key)
 
-pub byte_owes : (d : Data) (fault : Option StoreFault) (s : Session) (b : ℕ) → (after_byte d fault s b).painting_owed ≡ false
-byte_owes d fault s b = by_painting (is_painted s b) refl where
+pub press_owes : (d : Data) (fault : Option StoreFault) (s : Session) (key : Option Key) → (after_press d fault s key).painting_owed ≡ false
+press_owes d fault s key = by_painting (is_painted_press s key) refl where
   u : Session
-  u = unpainted_after_byte d fault s b
+  u = unpainted_after_press d fault s key
 
-  by_painting : (paints : Bool) → is_painted s b ≡ paints → (if paints then painted_after d (scroll_behind s.editor (key_of_byte s b)) u (key_of_byte s b) else u).painting_owed ≡ false
+  counts : Option Key
+  counts = counted_key s key
+
+  by_painting : (paints : Bool) → is_painted_press s key ≡ paints
+      → (if paints then painted_after d (scroll_behind s.editor counts) u counts else u).painting_owed ≡ false
   by_painting true paints = refl
-  by_painting false none = unpainted_owed d fault s b ∙ (no_need s.painting_owed (needs_painting s.editor (key_of_byte s b)) none).0
+  by_painting false none = unpainted_owed d fault s key ∙ (no_need s.painting_owed (needs_painting s.editor counts) none).0
 
 byte_accepted : (d : Data) (fault : Option StoreFault) (old new : World) (b : ℕ) (answer : Result (Unit {0}) StepFault) → AfterByteStep d fault old b answer new
     → accepted_after true (Byte b) answer ≡ true → new.session.painting_owed ≡ false
-byte_accepted d fault old new b (Ok done) is on = ap (λ (w : World). w.session.painting_owed) is ∙ byte_owes d fault old.session b
+byte_accepted d fault old new b (Ok done) is on = ap (λ (w : World). w.session.painting_owed) is ∙ press_owes d fault old.session (press_of old b)
 byte_accepted d fault old new b (Err why) is on = absurd (cc on)
 
 told_accepted : (d : Data) (old new : World) (height width : ℕ) (answer : Result (Unit {0}) StepFault) → AfterToldStep d old height width answer new

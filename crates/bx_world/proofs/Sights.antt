@@ -9,13 +9,14 @@ use Rattle.bx_grid.specs.Picture.{Shows}
 use Rattle.bx_grid.specs.Terminal.{Terminal, reads}
 use Rattle.bx_grid.proofs.Reading.{reads-append}
 use Rattle.bx_store.specs.declared.store.StoreFault.{StoreFault}
+use Rattle.bx_keys.specs.declared.key.Key.{Key}
 use Rattle.bx_ucd.specs.Data.{Data}
 use Rattle.bx_session.specs.declared.status.Refused.TheVariants as refused
 use Rattle.bx_editor.specs.Picture.{scrolled_by}
 use Rattle.bx_editor.specs.declared.scrolling.Scroll.{Scroll}
 use Rattle.bx_editor.specs.declared.scrolling.Scroll.TheVariants.{Least}
-use Rattle.bx_session.specs.Session.{Session, after_byte, clip_after, is_painted, key_of_byte, painted_after, painting}
-use Rattle.bx_session.specs.Session.{scroll_behind, then_clip, unpainted_after_byte, unpainted_after_told, StoreState}
+use Rattle.bx_session.specs.Session.{Session, after_press, clip_after, counted_key, is_painted_press, painted_after, painting}
+use Rattle.bx_session.specs.Session.{scroll_behind, then_clip, unpainted_after_press, unpainted_after_told, StoreState}
 use Rattle.bx_session.specs.Session as sessions
 use Rattle.bx_session.proofs.Pictures.{then_clip_after}
 use Rattle.bx_world.specs.declared.step.Step.{Step}
@@ -23,10 +24,10 @@ use Rattle.bx_world.specs.declared.step.Step.TheVariants.{Byte, Window, Told, Se
 use Rattle.bx_world.specs.declared.step.StepFault.{StepFault}
 use Rattle.bx_world.specs.declared.step.StepFault.TheVariants as faults
 use Rattle.bx_world.specs.World.{World, after_send, StepsTo, PlaysTo, AfterByteStep, AfterToldStep, AfterWindowStep, AfterSendStep}
-use Rattle.bx_world.specs.World.{AfterReadStep}
+use Rattle.bx_world.specs.World.{AfterReadStep, press_of}
 use Rattle.bx_world.specs.Showing.{unread, picture_of, IsInStep}
 use Rattle.bx_world.specs.Reading.{read_at, PlaysReading, is_change, is_window_changed, SeesPromised}
-use Rattle.bx_world.proofs.Keys.{spent, byte_pending}
+use Rattle.bx_world.proofs.Keys.{press_pending}
 use Rattle.bx_world.proofs.Schedules.{will_show}
 
 -- ---- steps that leave line and terminal
@@ -46,31 +47,35 @@ no_bytes old new pending line screen = record {
   screen = screen;
 }
 
-queued_by_byte : (d : Data) (fault : Option StoreFault) (s : Session) (b : ℕ) → (bytes : List ℕ) × ((after_byte d fault s b).pending ≡ s.pending ++ bytes)
-queued_by_byte d fault s b = by_painting (is_painted s b) where
+queued_by_press : (d : Data) (fault : Option StoreFault) (s : Session) (key : Option Key)
+    → (bytes : List ℕ) × ((after_press d fault s key).pending ≡ s.pending ++ bytes)
+queued_by_press d fault s key = by_painting (is_painted_press s key) where
   u : Session
-  u = unpainted_after_byte d fault s b
+  u = unpainted_after_press d fault s key
+
+  counts : Option Key
+  counts = counted_key s key
 
   scroll : Scroll
-  scroll = scroll_behind s.editor (key_of_byte s b)
+  scroll = scroll_behind s.editor counts
 
-  by_painting : (paints : Bool) → (bytes : List ℕ) × ((if paints then painted_after d scroll u (key_of_byte s b) else u).pending ≡ s.pending ++ bytes)
+  by_painting : (paints : Bool) → (bytes : List ℕ) × ((if paints then painted_after d scroll u counts else u).pending ≡ s.pending ++ bytes)
   by_painting true =
       let bytes : List ℕ = painting u.known (sessions.picture_of d (scrolled_by d scroll u.editor)) in
-      let clip = clip_after u.editor (key_of_byte s b) in
-      (then_clip bytes clip, then_clip_after u.pending bytes clip ∙ ap (λ xs. xs ++ then_clip bytes clip) (byte_pending d fault s b))
-  by_painting false = ([], byte_pending d fault s b ∙ sym (append-nil s.pending))
+      let clip = clip_after u.editor counts in
+      (then_clip bytes clip, then_clip_after u.pending bytes clip ∙ ap (λ xs. xs ++ then_clip bytes clip) (press_pending d fault s key))
+  by_painting false = ([], press_pending d fault s key ∙ sym (append-nil s.pending))
 
 byte_queues : (d : Data) (fault : Option StoreFault) (old new : World) (b : ℕ) (answer : Result (Unit {0}) StepFault)
     → AfterByteStep d fault old b answer new → Queues old new
 byte_queues d fault old new b (Ok done) is =
-    let queued = queued_by_byte d fault old.session b in
+    let queued = queued_by_press d fault old.session (press_of old b) in
     subst (Queues old) (sym is) (record { bytes = queued.0; pending = queued.1; line = refl; screen = refl })
 byte_queues d fault old new b (Err (faults.Session refused.Paint)) is =
-    no_bytes old new (ap (λ (w : World). w.session.pending) is.0 ∙ byte_pending d fault old.session b) (ap (λ (w : World). w.line) is.0)
+    no_bytes old new (ap (λ (w : World). w.session.pending) is.0 ∙ press_pending d fault old.session (press_of old b)) (ap (λ (w : World). w.line) is.0)
     (ap (λ (w : World). w.screen) is.0)
 byte_queues d fault old new b (Err (faults.Session refused.Edit)) is =
-    no_bytes old new (ap (λ (w : World). w.session.pending) is.0 ∙ (spent old.session b).pending) (ap (λ (w : World). w.line) is.0)
+    no_bytes old new (ap (λ (w : World). w.session.pending) is.0) (ap (λ (w : World). w.line) is.0)
     (ap (λ (w : World). w.screen) is.0)
 byte_queues d fault old new b (Err (faults.Session refused.Size)) is = absurd is
 byte_queues d fault old new b (Err (faults.Screen _)) is = absurd is

@@ -16,8 +16,8 @@ pub record Follows {A : Type 0} (d : Data) (old : World) (store : StoreState) (s
   pub events_are : AreEventsFrom d old.session.painting_owed old.session.editor schedule events
   pub input : HasBytesUntilEnd schedule events new.session.editor
   -- the keys of the input after the bytes of an unfinished key; without such bytes, the keys of the input as a whole
-  pub keys : keys_of events ≡ keys_from old.session.rest (input_of events)
-  pub as_whole : old.session.rest ≡ [] → HasKeysOfAll [] events
+  pub keys : keys_of events ≡ keys_from old.rest (input_of events)
+  pub as_whole : old.rest ≡ [] → HasKeysOfAll [] events
   pub editor : new.session.editor ≡ after_events d old.session.editor events
   pub stored : store' ≡ stored_after_all d old.session.editor store events
   -- the store counts each failed save, up to the largest u64

@@ -1,14 +1,15 @@
 -- The steps of a run, which is a session over a reader and a writer, and the steps of window and terminal between them.
 use Rattle.std.specs.Prelude.{◌≡◌, ℕ, Bool, true, false, not, ◌&&◌, ◌==◌, List, [], ◌∷◌, ◌++◌, length, map, Some, Result, Ok, Err, if◌then◌else◌}
-use Rattle.std.specs.List.{AllByRecursion, filter}
+use Rattle.std.specs.List.{AllByRecursion, filter, zip}
 use Rattle.bx_grid.specs.Picture.{Shows, is_size}
 use Rattle.bx_grid.specs.Terminal.{Terminal}
 use Rattle.bx_grid.specs.declared.error.GridError.TheVariants as grid
 use Rattle.bx_ucd.specs.Data.{Data}
 use Rattle.bx_editor.specs.Picture.{picture}
 use Rattle.bx_session.specs.Session.{Session, StoreState}
-use Rattle.bx_session.specs.Running.{ByteAnswer, Turn, InTurns}
+use Rattle.bx_session.specs.Running.{PressAnswer, Turn, InTurns}
 use Rattle.bx_session.specs.Beginning.{Beginning}
+use Rattle.bx_session.specs.Inputs.{rest_from}
 use Rattle.bx_world.specs.declared.step.Step.{Step}
 use Rattle.bx_world.specs.declared.step.Step.TheVariants.{Byte, Window, Told, Send, Read}
 use Rattle.bx_world.specs.declared.step.StepFault.{StepFault}
@@ -24,9 +25,13 @@ Schedule = List (Step × Result (Unit {0}) StepFault)
 
 -- ---- the steps of a run
 
--- the bytes of a turn, each with its answer, and then the sending of the bytes written
+-- bytes, each with the answer to its press
+abbrev pub steps_of_bytes : List ℕ → List PressAnswer → Schedule
+steps_of_bytes bytes answered = map (λ x. (Byte x.0, answer_of x.1.1)) (zip bytes answered)
+
+-- the bytes typed in a turn, each with its answer, and then the sending of the bytes written
 abbrev pub steps_of_turn : Turn → Schedule
-steps_of_turn turn = map (λ a. (Byte a.0, answer_of a.1)) turn.fed ++ (Send (length turn.written), Ok tt) ∷ []
+steps_of_turn turn = steps_of_bytes turn.typed turn.pressed ++ (Send (length turn.written), Ok tt) ∷ []
 
 -- the steps of turns in sequence
 abbrev pub steps_of_turns : List Turn → Schedule
@@ -34,8 +39,8 @@ steps_of_turns [] = []
 steps_of_turns (turn ∷ more) = steps_of_turn turn ++ steps_of_turns more
 
 -- the pending bytes are sent, and then the turns follow
-abbrev pub steps_of_run : {d : Data} {old new : Session} {store store' : StoreState} {answered : List ByteAnswer} {dropped written : List ℕ}
-    → InTurns d old new store store' answered dropped written → Schedule
+abbrev pub steps_of_run : {d : Data} {rest : List ℕ} {old new : Session} {store store' : StoreState} {typed : List ℕ} {answered : List PressAnswer}
+    {dropped written : List ℕ} → InTurns d rest old new store store' typed answered dropped written → Schedule
 steps_of_run run = (Send (length run.first), Ok tt) ∷ steps_of_turns run.turns
 
 -- ---- the steps of window and terminal
@@ -64,10 +69,12 @@ pub record IsAmong (run schedule : Schedule) : Type 0 where
 
 -- ---- the start of a run
 
--- a session at a terminal, before any byte is sent; the window's size counts as told if it is the session's
-abbrev pub begins_at : Session → Terminal → World
-begins_at s t = record {
+-- a session at a terminal, before any byte is sent, with these bytes of input waiting; the window's size counts as told if it is the
+-- session's
+abbrev pub begins_at : List ℕ → Session → Terminal → World
+begins_at rest s t = record {
   session = s;
+  rest = rest;
   line = [];
   height = t.height;
   width = t.width;
@@ -83,7 +90,7 @@ pub record RunsInWindow (d : Data) (b : Beginning) (begun s : Session) (store st
   pub new : World
   pub events : List Event
   pub terminal : Terminal
-  pub plays : PlaysTo d (begins_at begun t) store schedule new store'
+  pub plays : PlaysTo d (begins_at (rest_from [] b.journal) begun t) store schedule new store'
   pub session : new.session ≡ s
   pub screen : new.screen ≡ Some terminal
   pub headline : Headline d begun.editor b.journal store schedule new store' events

@@ -1,5 +1,5 @@
--- The world, which is a session, the line (the bytes in transit to the terminal), the window and the terminal, its changes, and its
--- steps. `w` is the world before, `s` a session, `b` a byte of input.
+-- The world, which is a session with the decoder of its input, the line (the bytes in transit to the terminal), the window and the
+-- terminal, its changes, and its steps. `w` is the world before, `s` a session, `b` a byte of input.
 use Rattle.std.specs.Prelude.{ℕ, Bool, true, false, ◌&&◌, ◌==◌, List, [], ◌++◌, take, drop, Option, Some, None, option_map, ◌≡◌, ◌≢◌, ◌∷◌}
 use Rattle.std.specs.Prelude.{Result, Ok, Err, IsSome}
 use Rattle.std.specs.List.{AllByRecursion}
@@ -8,9 +8,10 @@ use Rattle.bx_keys.specs.declared.key.Key.TheVariants.{Size}
 use Rattle.bx_grid.specs.Terminal.{Terminal, reads, after_resize, unknown_terminal}
 use Rattle.bx_grid.specs.Picture.{is_size}
 use Rattle.bx_grid.specs.declared.error.GridError.TheVariants as grid
-use Rattle.bx_session.specs.Session.{Session, key_of_byte, after_sending, after_spending, after_byte, owing_after_byte, is_painted}
+use Rattle.bx_keys.specs.Keys.{head_of, key_after, rest_after}
+use Rattle.bx_session.specs.Session.{Session, counted_key, after_sending, after_press, owing_after_press, is_painted_press}
 use Rattle.bx_session.specs.declared.status.Refused.TheVariants as refused
-use Rattle.bx_session.specs.Session.{after_told, owing_after_told, StoreState, StoreAfter, is_save_byte, may_refuse_key, text_to_save}
+use Rattle.bx_session.specs.Session.{after_told, owing_after_told, StoreState, StoreAfter, is_save_press, may_refuse_key, text_to_save}
 use Rattle.bx_store.specs.declared.store.StoreFault.{StoreFault}
 use Rattle.bx_ucd.specs.Data.{Data}
 use Rattle.bx_world.specs.declared.step.Step.{Step}
@@ -20,6 +21,8 @@ use Rattle.bx_world.specs.declared.step.StepFault.TheVariants as faults
 
 pub record World : Type 0 where
   pub session : Session
+  -- the bytes of input that are not a whole key yet (`head_of`: of more than 12 bytes, which can give no key, the first 12)
+  pub rest : List ℕ
   -- bytes sent and not yet read
   pub line : List ℕ
   -- the window's rows and columns
@@ -34,6 +37,7 @@ pub record World : Type 0 where
 abbrev pub around : Session → ℕ → ℕ → World
 around s height width = record {
   session = s;
+  rest = [];
   line = [];
   height = height;
   width = width;
@@ -56,9 +60,17 @@ told_after height width told _ = told
 abbrev pub told_after_key : World → Option Key → Bool
 told_after_key w key = told_after w.height w.width w.told key
 
+-- the press of a byte: the key that it completes, or none
+abbrev pub press_of : World → ℕ → Option Key
+press_of w b = key_after w.rest b
+
+-- a byte is decoded
+abbrev pub after_decoding : World → ℕ → World
+after_decoding w b = record w { rest = head_of (rest_after w.rest b) }
+
 -- after a byte that leaves this session
 abbrev pub with_byte : World → ℕ → Session → World
-with_byte w b s = record w { session = s; told = told_after_key w (key_of_byte w.session b) }
+with_byte w b s = record (after_decoding w b) { session = s; told = told_after_key w (counted_key w.session (press_of w b)) }
 
 -- after a told size that leaves this session
 abbrev pub with_told_size : World → ℕ → ℕ → Session → World
@@ -101,11 +113,11 @@ is_applied _ = true
 
 -- the world after a byte, by the answer; `fault`: why the save failed that its key made, None if it succeeded
 abbrev pub AfterByteStep : {A : Type 0} → Data → Option StoreFault → World → ℕ → Result A StepFault → World → Type 0
-AfterByteStep d fault old b (Ok _) new = new ≡ with_byte old b (after_byte d fault old.session b)
+AfterByteStep d fault old b (Ok _) new = new ≡ with_byte old b (after_press d fault old.session (press_of old b))
 AfterByteStep d fault old b (Err (faults.Session refused.Paint)) new =
-    (new ≡ with_byte old b (owing_after_byte d fault old.session b)) × (is_painted old.session b ≡ true)
+    (new ≡ with_byte old b (owing_after_press d fault old.session (press_of old b))) × (is_painted_press old.session (press_of old b) ≡ true)
 AfterByteStep d fault old b (Err (faults.Session refused.Edit)) new =
-    (new ≡ record old { session = after_spending old.session b }) × (may_refuse_key old.session.editor (key_of_byte old.session b) ≡ true)
+    (new ≡ after_decoding old b) × (may_refuse_key old.session.editor (counted_key old.session (press_of old b)) ≡ true)
 AfterByteStep d fault old b _ new = ⊥
 
 -- the world after the session was told a size, by the answer
@@ -144,7 +156,7 @@ AfterReadStep old count _ new = ⊥
 abbrev pub StepsTo : {A : Type 0} → Data → World → StoreState → Step → Result A StepFault → World → StoreState → Type 0
 StepsTo d old store (Byte b) answer new store' =
     (fault : Option StoreFault)
-    × StoreAfter (is_applied answer && is_save_byte old.session b) fault (text_to_save d old.session.editor) store store'
+    × StoreAfter (is_applied answer && is_save_press old.session (press_of old b)) fault (text_to_save d old.session.editor) store store'
     × AfterByteStep d fault old b answer new
 StepsTo d old store (Told height width) answer new store' = AfterToldStep d old height width answer new × (store' ≡ store)
 StepsTo d old store (Window height width) answer new store' = AfterWindowStep old height width answer new × (store' ≡ store)

@@ -3,9 +3,9 @@
 
 ghost use Rattle.std.specs.Prelude.{◌≡◌, ◌≢◌, ◌≤◌, ◌++◌, ◌==◌, ◌&&◌, [], true, false, Option, IsSome, OnErr, OnOk, drop, length, option_map, take};
 ghost use Rattle.bx_grid.specs.Terminal.{reads};
-ghost use Rattle.bx_session.specs.Session.{StoreAfter, is_save_byte, key_of_byte, store_state, text_to_save};
+ghost use Rattle.bx_session.specs.Session.{StoreAfter, counted_key, is_save_press, store_state, text_to_save};
 ghost use Rattle.bx_store.specs.declared.store.StoreFault.{StoreFault};
-ghost use Rattle.bx_world.specs.World.{AfterByteStep, AfterReadStep, AfterSendStep, AfterToldStep, AfterWindowStep, StepsTo, is_applied, told_after};
+ghost use Rattle.bx_world.specs.World.{AfterByteStep, AfterReadStep, AfterSendStep, AfterToldStep, AfterWindowStep, StepsTo, is_applied, press_of, told_after};
 ghost use Rattle.bx_world.specs.Answers as answers;
 ghost use Rattle.bx_world.specs.Showing.{StaysWhole, WillShow};
 
@@ -25,18 +25,20 @@ fn is_window(height: u16, width: u16, rows: u16, columns: u16) -> bool
     height == rows && width == columns
 }
 
-/// Whether the session was told the window's last size, `height` rows and `width` columns, after a byte; `told`: before the byte.
+/// Whether the session was told the window's last size, `height` rows and `width` columns, after a press; `told`: before it.
 fn is_told_after<D: BidiData + Drop>(
     session: &Session<D>,
     height: u16,
     width: u16,
     told: bool,
-    byte: u8,
+    key: Option<Key>,
 ) -> bool
-    ensures { result ≡ told_after height width told (key_of_byte session.now.session byte) }
+    ensures { result ≡ told_after height width told (counted_key session.now.session key) }
 {
-    match session.key_of(byte) {
-        Some(Key::Size(rows, columns)) => is_window(height, width, rows, columns),
+    match key {
+        Some(Key::Size(rows, columns)) if !session.ended() => {
+            is_window(height, width, rows, columns)
+        }
         _ => told,
     }
 }
@@ -120,17 +122,18 @@ fn read_some(screen: &mut Screen, line: &mut Vec<u8>, count: usize) -> Result<()
 }
 
 impl<D: BidiData + Drop> World<D> {
-    /// Feeds a byte of input to the session.
+    /// Decodes a byte of input, and the session takes its press.
     fn type_byte<S: Store>(&mut self, byte: u8, store: &mut S) -> Result<(), StepFault>
         ensures step { (fault : Option StoreFault)
-            × StoreAfter (is_applied result && is_save_byte self.old.world.session byte) fault
+            × StoreAfter (is_applied result && is_save_press self.old.world.session (press_of self.old.world byte)) fault
             (text_to_save (D.data self.old.tables) self.old.world.session.editor)
             (store_state S.contents S.faults store.old) (store_state S.contents S.faults store.new)
             × AfterByteStep (D.data self.old.tables) fault self.old.world byte result self.new.world }
         ensures tables { self.new.tables ≡ self.old.tables }
     {
-        let told = is_told_after(&self.session, self.height, self.width, self.told, byte);
-        let answer = self.session.feed(byte, store);
+        let key = self.decoder.feed(byte);
+        let told = is_told_after(&self.session, self.height, self.width, self.told, key);
+        let answer = self.session.press(key, store);
         mark_after(&mut self.told, told, &answer);
         answer_of(answer)
     }

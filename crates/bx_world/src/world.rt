@@ -10,18 +10,22 @@ ghost use Rattle.bx_session.specs.Session.{at_opening, with_clipboard, with_sett
 ghost use Rattle.bx_world.specs.World.{around};
 
 use bx_common::Base;
+use bx_keys::Decoder;
 use bx_session::{OpenError, Session, Settings};
 use bx_terminal::Screen;
 use bx_ucd::BidiData;
 use std::alloc::Global;
 use std::marker::Model;
 
-/// A session, the line (the bytes in transit to the terminal), the window's size, and the terminal. After any steps, a terminal
-/// that has read the line and what is pending shows the picture last painted, if the session was told the window's last size.
+/// A session with the decoder of its input, the line (the bytes in transit to the terminal), the window's size, and the terminal. After
+/// any steps, a terminal that has read the line and what is pending shows the picture last painted, if the session was told the window's
+/// last size.
 #[derive(Drop)]
 pub struct World<D: BidiData + Drop> {
     // the session, whose pending bytes go to the line
     pub(crate) session: Session<D>,
+    // what makes presses of the input's bytes
+    pub(crate) decoder: Decoder,
     // the bytes sent to the terminal and not yet read by it
     pub(crate) line: Vec<u8>,
     // the window's rows and columns
@@ -42,6 +46,7 @@ impl<D: BidiData + Drop> Model for World<D> {
       tables = w.session.tables;
       world = record {
         session = w.session.session;
+        rest = w.decoder;
         line = w.line.items;
         height = w.height;
         width = w.width;
@@ -52,6 +57,7 @@ impl<D: BidiData + Drop> Model for World<D> {
 
     ghost invariant = { λ w. IsInStep (D.data w.session.tables) (record {
       session = w.session.session;
+      rest = w.decoder;
       line = w.line.items;
       height = w.height;
       width = w.width;
@@ -93,6 +99,7 @@ impl<D: BidiData + Drop> World<D> {
         };
         Ok(World {
             session,
+            decoder: Decoder::new(),
             line: Vec::new(alloc),
             height,
             width,

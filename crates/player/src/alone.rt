@@ -4,17 +4,19 @@ use crate::answers::{Answers, letter_of_refusal};
 use crate::looks::Seen;
 use crate::scene::{Act, Look, Scene};
 use crate::stage::write_by_another;
+use bx_keys::Decoder;
 use bx_session::{Refused, Session, Status};
 use bx_store::{MemoryStore, Store};
 use bx_ucd::BidiData;
 use bx_world::Step;
 use std::alloc::{AllocError, Global};
 
-/// A session, with its store, that plays a scene.
+/// A session, with the decoder of its input and its store, that plays a scene.
 #[derive(Drop)]
 pub struct Alone<D: BidiData + Drop> {
     pub alloc: Global,
     pub session: Session<D>,
+    pub decoder: Decoder,
     /// Has the scene's failing call, if it has one.
     pub store: MemoryStore,
     /// Whether the scene has a call of the store fail.
@@ -79,7 +81,8 @@ impl<D: BidiData + Drop> Alone<D> {
 
     /// Replays a byte of a journal, and notes the answer.
     fn replay(&mut self, byte: u8, answers: &mut Answers) -> Result<(), AllocError> {
-        let letter = match self.session.replay(byte) {
+        let key = self.decoder.feed(byte);
+        let letter = match self.session.press_again(key) {
             Ok(()) => 'o',
             Err(refused) => letter_of_refusal(refused),
         };
@@ -95,10 +98,11 @@ impl<D: BidiData + Drop> Alone<D> {
         Ok(())
     }
 
-    /// Has the session read a byte of input. The letter of its answer.
+    /// Has the session take the press of a byte of input. The letter of its answer.
     fn type_byte(&mut self, byte: u8) -> char {
         let failures = self.store.failures();
-        let answer = self.session.feed(byte, &mut self.store);
+        let key = self.decoder.feed(byte);
+        let answer = self.session.press(key, &mut self.store);
         letter_of_byte(answer, !self.may_fail && self.store.failures() > failures)
     }
 

@@ -7,6 +7,7 @@ use crate::scene::{Mode, Scene};
 use crate::stage::Stage;
 use crate::terminal::Terminal;
 use bx_grid::GridError;
+use bx_keys::Decoder;
 use bx_session::{OpenError, Session};
 use bx_ucd::Tables;
 use bx_world::{Step, World};
@@ -129,6 +130,7 @@ fn play_alone(
             let mut alone = Alone {
                 alloc,
                 session,
+                decoder: Decoder::new(),
                 store: scene.store(alloc)?,
                 may_fail: scene.failing.is_some(),
             };

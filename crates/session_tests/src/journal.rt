@@ -19,7 +19,7 @@ fn path_of(rt: &HostRuntime, name: &str) -> Result<PathBuf, Fail> {
 }
 
 /// Writes bytes and flushes. Returns whether both succeeded.
-fn is_kept(journal: &mut JournalFile<'_>, bytes: &[u8]) -> bool {
+fn is_kept<W: Write>(journal: &mut W, bytes: &[u8]) -> bool {
     journal.write_all(bytes).is_ok() && journal.flush().is_ok()
 }
 

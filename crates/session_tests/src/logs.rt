@@ -1,6 +1,7 @@
 //! The log of a run over a device in memory.
 
 use bx_common::Base;
+use bx_keys::Decoder;
 use bx_session::{Action, MemoryDevice, Session, run_device};
 use bx_ucd::sample_tables;
 use std::alloc::{AllocError, Global};
@@ -34,7 +35,7 @@ fn actions_of(alloc: Global, input: &[u8]) -> Result<String, AllocError> {
     };
     let mut device = MemoryDevice::new(alloc, Vec::from_slice(alloc, input)?);
     // 10 reads are more than this run makes
-    let _ = run_device(10, &mut device, &mut session);
+    let _ = run_device(10, &mut device, &mut Decoder::new(), &mut session);
     if let Some(actions) = device.log() {
         write_actions(actions, &mut text);
     }

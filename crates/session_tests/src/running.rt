@@ -2,6 +2,7 @@
 
 use crate::faulty::{Letters, Narrow, Refusal};
 use bx_common::Base;
+use bx_keys::{Decoder, Key};
 use bx_session::{End, RunFault, Session, run};
 use bx_store::{MemoryStore, Store};
 use bx_ucd::{Tables, sample_tables};
@@ -16,9 +17,6 @@ const OPENED: usize = 22;
 
 /// More reads than any run here makes.
 const READS: u64 = 99;
-
-/// The key Save.
-const SAVE: u8 = 0x13;
 
 /// How a run ended, in words.
 fn told(found: Result<End, RunFault>) -> &'static str {
@@ -50,7 +48,14 @@ fn ends(
     let mut session = opened(alloc, text, 1, 5)?;
     let mut written = Vec::new(alloc);
     let mut store = MemoryStore::new(alloc, None);
-    let found = run(READS, &mut keys, &mut written, &mut store, &mut session);
+    let found = run(
+        READS,
+        &mut keys,
+        &mut written,
+        &mut store,
+        &mut Decoder::new(),
+        &mut session,
+    );
     Ok(told(found) == end && written.as_slice() == output)
 }
 
@@ -87,6 +92,7 @@ fn breaks_at_write(alloc: Global, writer: &mut Narrow, count: usize) -> Result<b
         &mut b"\x11".as_slice(),
         writer,
         &mut store,
+        &mut Decoder::new(),
         &mut session,
     );
     let queued = if session.ended() {
@@ -142,7 +148,7 @@ fn a_flush_that_fails_is_a_fault(rt: HostRuntime) -> Result<(), Fail> {
 /// Whether a Save stores this text.
 fn saves(alloc: Global, session: &mut Session<Tables>, text: &[u8]) -> bool {
     let mut store = MemoryStore::new(alloc, None);
-    session.feed(SAVE, &mut store).is_ok() && store.contents() == text
+    session.press(Some(Key::Save), &mut store).is_ok() && store.contents() == text
 }
 
 /// Whether a run over `letters` letters, with at most `limit` reads, ends with `fault` after it wrote all of its output,
@@ -159,7 +165,14 @@ fn breaks_at_read(
     let mut output = Vec::new(alloc);
     let mut store = MemoryStore::new(alloc, None);
     let reader = &mut Letters { left: letters };
-    let found = run(limit, reader, &mut output, &mut store, &mut session);
+    let found = run(
+        limit,
+        reader,
+        &mut output,
+        &mut store,
+        &mut Decoder::new(),
+        &mut session,
+    );
     Ok(
         told(found) == fault
             && output.len() == written
@@ -199,6 +212,7 @@ fn ends_within_one_read(alloc: Global) -> Result<bool, Fail> {
         &mut b"\x11".as_slice(),
         &mut output,
         &mut store,
+        &mut Decoder::new(),
         &mut session,
     );
     Ok(told(found) == "quit" && output.as_slice() == OPENED_AND_ENDED)

@@ -1,6 +1,7 @@
 //! The bytes flushed before each read of a run.
 
 use bx_common::Base;
+use bx_keys::Decoder;
 use bx_session::{Session, run};
 use bx_store::MemoryStore;
 use bx_ucd::sample_tables;
@@ -73,7 +74,15 @@ fn what_a_turn_queued_is_flushed_before_the_next_read(rt: HostRuntime) -> Result
         seen: Vec::new(alloc),
     };
     // 9 reads are more than this run makes
-    let _ = run(9, &mut reader, &mut writer, &mut store, &mut session);
+    let mut decoder = Decoder::new();
+    let _ = run(
+        9,
+        &mut reader,
+        &mut writer,
+        &mut store,
+        &mut decoder,
+        &mut session,
+    );
     assert_eq!(rt; reader.seen.as_slice(), [22, 37, 37].as_slice());
     assert_eq!(rt;
         reader.keys,

@@ -4,6 +4,7 @@ use crate::editor::Traffic;
 use crate::editor::counting_store::CountingStore;
 use anyhow::{Result, bail};
 use bx_common::Base;
+use bx_keys::Decoder;
 use bx_session::Session;
 use bx_ucd::Tables;
 
@@ -25,6 +26,7 @@ const HALF_LINE: usize = 40;
 #[derive(Drop)]
 pub(crate) struct Typist {
     session: Session<Tables>,
+    decoder: Decoder,
     store: CountingStore,
     // the number of bytes sent to the terminal; those sent on the way to the text's middle do not count
     sent: usize,
@@ -44,6 +46,7 @@ impl Typist {
         let sent = take(&mut session);
         Ok(Typist {
             session,
+            decoder: Decoder::new(),
             store: CountingStore::new(),
             sent,
         })
@@ -52,7 +55,8 @@ impl Typist {
     /// Presses a key and takes the bytes that it queues.
     pub(crate) fn press(&mut self, key: &str) -> Result<()> {
         for byte in key.as_bytes() {
-            if self.session.feed(*byte, &mut self.store).is_err() {
+            let completed = self.decoder.feed(*byte);
+            if self.session.press(completed, &mut self.store).is_err() {
                 bail!("there is no memory for a key");
             }
         }

@@ -10,4 +10,4 @@ returns-clause-session g c =
     let mid = c.replay.new.session in
     c.in_ok-paint.ensures.ok
     ∙ ap (λ (t : g.row.D.Denot). with_painting (ucd t) mid.session) c.replay.ensures.tables
-    ∙ ap (with_painting (ucd old.tables)) c.in_ok-replay.ensures.replays
+    ∙ ap (with_painting (ucd old.tables)) c.in_ok-decoder.ensures.replays

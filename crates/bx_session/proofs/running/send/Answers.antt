@@ -1,4 +1,4 @@
-use Rattle.std.proofs.Common.{ap, inl, inr, length, take, refl, [], ◌∷◌, ◌∙◌}
+use Rattle.std.proofs.Common.{ap, inl, inr, length, take, refl, [], ◌∷◌}
 use Rattle.bx_session.specs.declared.action.Action.TheVariants.{Write, WriteFailed, Flush, FlushFailed}
 use Rattle.bx_session.specs.Log.{Calls, sending}
 use Rattle.bx_session.specs.Feeding.{SessionState}

@@ -1,27 +1,22 @@
-use Rattle.std.proofs.Common.{◌≡◌, ◌∙◌, Option, true, false, sym, ap, subst}
-use Rattle.std.specs.Prelude.{is_some}
-use Rattle.std.proofs.lemmas.Result.{on_ok_weaker}
+use Rattle.std.proofs.Common.{rules, ◌≡◌, ◌∙◌, Err, IsErrOf, sym, ap, subst}
 use Rattle.bx_ucd.specs.Data.{Data}
-use Rattle.bx_editor.specs.Editor.{Editor}
-use Rattle.bx_editor.specs.Saving.{Saving}
+use Rattle.bx_session.specs.declared.status.Refused.{Refused}
+use Rattle.bx_session.specs.declared.status.Refused.TheVariants.{Paint}
+use Rattle.bx_session.specs.Session.{with_painting_owed}
 use Rattle.bx_session.specs.Feeding.{SessionState}
-use Rattle.bx_session.proofs.Ending.{not_quit, other_is, some_of}
-use Rattle.bx_session.proofs.KeyKinds.{stores}
-use Rattle.bx_session.proofs.session.Session.press_again.Goals.{in-Quit, in_default}
+use Rattle.bx_session.proofs.Ending.{again_is, unmoved_is}
 use Rattle.bx_session.proofs.session.Session.press_again.Goals as goal
 
-pub returns-clause-after_key : goal.returns-clause-after_key
-returns-clause-after_key g c =
+pub returns-in-Ok-clause-after_press : goal.returns-in-Ok-clause-after_press
+returns-in-Ok-clause-after_press g c =
     let ucd : g.row.D.Denot → Data = g.D.BidiData.data in
-    let same : c.self.inside.editor.editor ≡ c.args.self.now.session.editor = ap (λ (x : SessionState g.row.D.Denot). x.session.editor) c.self.view_is in
-    let none : stores c.self.inside.editor.editor c.args.key ≡ false =
-    sym (ap (λ (saving : Option Saving). is_some saving) c.saving_of.ensures)
-    ∙ sym (some_of _ c.saving_of.result)
-    ∙ sym c.is_some.ensures
-    ∙ c.if-is_some.false in
-    let stays : stores c.args.self.now.session.editor c.args.key ≡ false = subst (λ (e : Editor). stores e c.args.key ≡ false) same none in
-    elim c.match-matches.branch [
-      | in-Quit w ↦ let both : true ≡ false = sym w.matches-is ∙ c.if-matches.false in absurd (cc both)
-      | in_default w ↦ on_ok_weaker c.press.result
-          (λ pressed. other_is ucd c.args.self.now c.press.new.self c.args.key (not_quit c.args.key w.in_default.not-Quit) stays pressed) c.press.ensures.after_key
-    ]
+    ap (λ (x : SessionState g.row.D.Denot). record x { session = with_painting_owed x.session }) c.self.view_is
+    ∙ again_is ucd c.args.self.now c.apply_counted.new.self c.args.key c.counted-counts.result c.counted-counts.ensures.key c.in-Ok.ensures.after_key
+
+pub returns-in-Err-Paint-clause-unmoved : goal.returns-in-Err-Paint-clause-unmoved
+returns-in-Err-Paint-clause-unmoved g c h =
+    let ucd : g.row.D.Denot → Data = g.D.BidiData.data in
+    let is : c.in-Err-Paint.field-0 ≡ Paint = search rules in
+    let same : IsErrOf {T = Unit {0}} (Err c.in-Err-Paint.field-0) Paint = subst (λ (r : Refused). IsErrOf {T = Unit {0}} (Err r) Paint) (sym is) h in
+    ap (λ (x : SessionState g.row.D.Denot). record x { session = with_painting_owed x.session }) c.self.view_is
+    ∙ unmoved_is ucd c.args.self.now c.apply_counted.new.self c.args.key c.counted-counts.result c.counted-counts.ensures.key (c.in-Err-Paint.ensures.unmoved same)

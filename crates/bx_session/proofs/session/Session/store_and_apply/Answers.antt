@@ -6,7 +6,7 @@ use Rattle.bx_session.specs.Feeding.{SessionState}
 use Rattle.bx_session.proofs.Bytes.{press_stored}
 use Rattle.bx_session.proofs.Ending.{both_refused, pressed_is, refused_is, same_stores, same_text, stores_ready}
 use Rattle.bx_session.proofs.KeyKinds.{stores}
-use Rattle.bx_session.proofs.session.Session.store_and_press.Goals as goal
+use Rattle.bx_session.proofs.session.Session.store_and_apply.Goals as goal
 
 pub returns-clause-pressed : goal.returns-clause-pressed
 returns-clause-pressed g c =
@@ -19,25 +19,25 @@ returns-clause-pressed g c =
     let fault = c.store_for-fault.result in
     let key = c.args.key in (
       fault,
-      press_stored c.press.result (stores mid.session.editor key) (stores old.session.editor key) fault mid.session.editor.content.text
+      press_stored c.apply.result (stores mid.session.editor key) (stores old.session.editor key) fault mid.session.editor.content.text
           (text_to_save (ucd old.tables) old.session.editor) before after (same_stores ucd old mid key ready) (same_text ucd old mid key ready)
-          (λ h. c.press.ensures.stores h (stores_ready mid.session.editor key c.in_ok-get_ready_for.ensures.none h)) c.store_for-fault.ensures.stored,
-      on_ok_weaker c.press.result (λ pressed. pressed_is ucd fault old mid c.press.new.self key ready pressed) c.press.ensures.after_key,
+          (λ h. c.apply.ensures.stores h (stores_ready mid.session.editor key c.in_ok-get_ready_for.ensures.none h)) c.store_for-fault.ensures.stored,
+      on_ok_weaker c.apply.result (λ pressed. pressed_is ucd fault old mid c.apply.new.self key ready pressed) c.apply.ensures.after_key,
     )
 
 pub returns-clause-err : goal.returns-clause-err
 returns-clause-err g c =
     let ucd : g.row.D.Denot → Data = g.D.BidiData.data in
-    both_refused c.press.result
-    (λ may same. (refused_is ucd c.args.self.now c.get_ready_for.new.self c.press.new.self c.args.key c.in_ok-get_ready_for.ensures.ok
-    c.in_ok-get_ready_for.ensures.none may same).0) c.press.ensures.edits c.press.ensures.err
+    both_refused c.apply.result
+    (λ may same. (refused_is ucd c.args.self.now c.get_ready_for.new.self c.apply.new.self c.args.key c.in_ok-get_ready_for.ensures.ok
+    c.in_ok-get_ready_for.ensures.none may same).0) c.apply.ensures.edits c.apply.ensures.err
 
 pub returns-clause-edits : goal.returns-clause-edits
 returns-clause-edits g c =
     let ucd : g.row.D.Denot → Data = g.D.BidiData.data in
-    both_refused c.press.result
-    (λ may same. (refused_is ucd c.args.self.now c.get_ready_for.new.self c.press.new.self c.args.key c.in_ok-get_ready_for.ensures.ok
-    c.in_ok-get_ready_for.ensures.none may same).1) c.press.ensures.edits c.press.ensures.err
+    both_refused c.apply.result
+    (λ may same. (refused_is ucd c.args.self.now c.get_ready_for.new.self c.apply.new.self c.args.key c.in_ok-get_ready_for.ensures.ok
+    c.in_ok-get_ready_for.ensures.none may same).1) c.apply.ensures.edits c.apply.ensures.err
 
 pub returns-clause-untouched : goal.returns-clause-untouched
 returns-clause-untouched g c none =
