@@ -2,12 +2,8 @@
 #include <ctype.h>
 #include <errno.h>
 #include <poll.h>
-#include <stddef.h>
-#include <stdint.h>
 #include <stdio.h>
 #include <string.h>
-#include <sys/socket.h>
-#include <sys/un.h>
 #include <termios.h>
 #include <unistd.h>
 
@@ -67,19 +63,21 @@ enum beside ask_what_beside(void) {
     return BESIDE_NO;
 }
 
-/* Asks for the word that deletes, or for a digit that stands in the question, which no slip types. */
-static bool ask_to_delete(void) {
+/* Asks for the word that deletes, or for a digit that stands in the question, which no slip types. Returns 0 for these, 1 at any other answer,
+ * or -1 where the input ends. */
+static int ask_to_delete(void) {
     char digit[2] = "";
     make_letters(digit, 1, "23456789");
     const char *answer = ask(text_of("To delete this for good, type delete or %s:", digit));
-    return answer && (strcmp(answer, "delete") == 0 || (*digit && strcmp(answer, digit) == 0));
+    if (!answer) return -1;
+    return strcmp(answer, "delete") != 0 && (!*digit || strcmp(answer, digit) != 0);
 }
 
 enum choice ask_choice(void) {
     static const char question[] = "[r]ecover, [d]elete for good, [l]ater?";
     for (const char *answer = ask(question); answer; answer = ask(question)) {
         enum choice choice = choice_of(answer);
-        int sure = choice == CHOICE_ASK_AGAIN ? ask_either("Delete it for good (yes, no)?", "yes", "no") : 1;
+        int sure = choice == CHOICE_ASK_AGAIN ? ask_to_delete() : 1;
         if (sure < 0) return CHOICE_NONE;
         if (sure == 0) return CHOICE_DELETE;
         if (choice != CHOICE_ASK_AGAIN && choice != CHOICE_NONE) return choice;
@@ -92,43 +90,13 @@ enum rest ask_rest(void) {
     return rest < 0 ? REST_NONE : rest == 0 ? REST_OPEN : REST_KEEP;
 }
 
-/* ---- other editors of the user's that have FILE open and may keep no session */
-
-/* They see this process by a socket. Its name begins with NUL, so it is no path. It has the folder's number and a hash of FILE's name (FNV-1a),
- * which may be too long: a rename of the folder changes no number, and a save changes FILE's own number. */
-pid_t note_open_file(const struct file *file) {
-    static int own = -1;
-    static struct sockaddr_un own_name;
-    struct sockaddr_un address = {.sun_family = AF_UNIX};
-    struct ucred peer = {0, 0, 0};
-    socklen_t length = sizeof peer;
-    if (!file) {
-        close_one(&own);
-        return 0;
-    }
-    uint64_t hash = 14695981039346656037u;
-    for (const char *at = file->name; *at; at++) hash = (hash ^ (unsigned char)*at) * 1099511628211u;
-    int count = snprintf(address.sun_path + 1, sizeof address.sun_path - 1, "bidi-edit.%u.%ju.%ju.%ju", (unsigned)geteuid(),
-                         (uintmax_t)file->folder_id.device, (uintmax_t)file->folder_id.inode, (uintmax_t)hash);
-    socklen_t size = (socklen_t)(offsetof(struct sockaddr_un, sun_path) + 1 + (size_t)count);
-    if (own >= 0 && memcmp(&own_name, &address, sizeof address) == 0) return 0;
-    close_one(&own);
-    own_name = address;
-    own = socket(AF_UNIX, SOCK_STREAM | SOCK_CLOEXEC | SOCK_NONBLOCK, 0);
-    if (own < 0 || (bind(own, (struct sockaddr *)&address, size) == 0 && listen(own, SOMAXCONN) == 0)) return 0;
-    bool is_there = errno == EADDRINUSE && connect(own, (struct sockaddr *)&address, size) == 0, is_full = !is_there && errno == EAGAIN;
-    if (!is_there || getsockopt(own, SOL_SOCKET, SO_PEERCRED, &peer, &length) != 0 || peer.uid != geteuid()) peer.pid = is_full ? -1 : 0;
-    close_one(&own);
-    return peer.pid;
-}
-
 /* ---- the list of all sessions, and their removal */
 
 const char *time_text(const struct session *session) {
     struct timespec time;
     char words[32];
     if (!session_changed(session, &time)) return "an unknown time";
-    time_words(&time, words);
+    format_time(&time, words);
     return text_of("%s", words);
 }
 
@@ -203,14 +171,14 @@ struct counts {
 static void tell_forgotten(void *context, const struct forgotten *forgotten) {
     struct counts *counts = context;
     char time[32] = "";
-    if (forgotten->has_time) time_words(&forgotten->changed, time);
+    if (forgotten->has_time) format_time(&forgotten->changed, time);
     const char *name = text_of("the session of %s%s%s", path_shown(forgotten->path), *time ? " from " : "", time);
     counts->asked += forgotten->is_asked;
     if (forgotten->is_asked) {
         tell("%s has unsaved text%s", name, forgotten->was_dropped ? " (dropped)" : "");
         return;
     }
-    if (forgotten->cause) warn("%s cannot be deleted%s", name, fault_words(forgotten->cause));
+    if (forgotten->cause) warn("%s cannot be deleted%s", name, fault_text(forgotten->cause));
     else tell("%s is deleted%s", name, forgotten->was_dropped ? " (dropped)" : "");
     counts->kept += forgotten->cause != 0;
     counts->removed += forgotten->cause == 0;
@@ -225,21 +193,21 @@ static int ask_to_forget(const struct sessions *sessions, const struct target *t
         warn("--forget asks before it deletes unsaved text, and there is no terminal: --forget --yes deletes it unasked");
         return STATUS_NO;
     }
-    return ask_to_delete() ? GO_ON : STATUS_NO;
+    return ask_to_delete() == 0 ? GO_ON : STATUS_NO;
 }
 
 /* Of FILE, also those go that another name of it has. */
 int forget_sessions(const char *typed, bool is_sure) {
-    static struct edit edit;
+    static struct opened opened;
     struct counts counts = {0};
-    int status = typed ? find_file(&edit, typed, true) : GO_ON;
+    int status = typed ? find_file(&opened, typed, true) : GO_ON;
     if (status != GO_ON) return status;
-    if (!typed) find_sessions(&edit.sessions);
-    const struct target *target = typed ? &edit.target : NULL;
-    if (!is_sure) status = ask_to_forget(&edit.sessions, target);
-    if (status == GO_ON) sessions_forget(&edit.sessions, target, true, tell_forgotten, &counts);
-    if (typed) close_edited(&edit);
-    else sessions_close(&edit.sessions);
+    if (!typed) find_sessions(&opened.sessions);
+    const struct target *target = typed ? &opened.target : NULL;
+    if (!is_sure) status = ask_to_forget(&opened.sessions, target);
+    if (status == GO_ON) sessions_forget(&opened.sessions, target, true, tell_forgotten, &counts);
+    if (typed) close_opened(&opened);
+    else sessions_close(&opened.sessions);
     if (status != GO_ON) return status;
     if (counts.removed + counts.kept == 0 && typed) tell("there is no session of %s to delete", shown(typed));
     if (counts.removed + counts.kept == 0 && !typed) tell("there are no sessions to delete");

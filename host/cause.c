@@ -16,7 +16,7 @@ static const char *const sentences[CAUSES] = {
     [CAUSE_OUT_OF_MEMORY] = "out of memory",
     [CAUSE_CHANGED] = "file changed on disk",
     [CAUSE_NOT_PLAIN] = "not a plain file",
-    [CAUSE_CUT_OFF] = "file cut off",
+    [CAUSE_CUT_OFF] = "file incomplete",
     [CAUSE_OTHER] = "disk error",
     [CAUSE_EXISTS] = "file exists",
     [CAUSE_FOLDER] = "% is a folder: name a file in it",
@@ -33,9 +33,9 @@ static const char *const sentences[CAUSES] = {
     [CAUSE_FOLDER_BELOW_FILE] = "the folder @ cannot exist, since its path leads through a file: name a file in a folder",
     [CAUSE_FOLDER_UNREACHED] = "the folder @ cannot be reached: you have no access to a folder above it",
     [CAUSE_FOLDER_PATH_TOO_LONG] = "the folder @ cannot be reached, since its path is too long: go to a folder above it, and name FILE from there",
-    [CAUSE_FOLDER_CLOSED] = "you have no access to the folder @: if it is yours, chmod u+x gives you access",
+    [CAUSE_FOLDER_CLOSED] = "you have no access to $: if it is yours, chmod u+x gives you access",
     [CAUSE_FOLDER_NOT_UTF8] = "% is in a folder whose name is not UTF-8: rename the folder with mv",
-    [CAUSE_FOLDER_PROTECTED] = "you cannot write to the folder @, so no save is possible: edit a copy elsewhere; --force opens the file anyway",
+    [CAUSE_FOLDER_PROTECTED] = "you cannot write to $, so no save is possible: edit a copy elsewhere; --force opens the file anyway",
     [CAUSE_UNREADABLE] = "% cannot be read: if it is yours, chmod u+r makes it readable; --force opens an empty text in its place",
     [CAUSE_WRITE_PROTECTED] = "% is write-protected: if it is yours, chmod u+w makes it writable; --force opens it anyway",
     [CAUSE_UTF16] = "% is UTF-16, not UTF-8: iconv -f UTF-16 -t UTF-8 % > &",
@@ -69,10 +69,11 @@ const char *cause_text(enum cause cause) {
 const char *cause_message(enum cause cause, const char *name, const char *folder, unsigned long long number) {
     char *text = text_of("%s", "");
     const char *rest = cause_text(cause);
-    static const char marks[] = "%&@#";
+    static const char marks[] = "%&@$#";
     for (size_t length = strcspn(rest, marks); rest[length]; rest += length + 1, length = strcspn(rest, marks)) {
         const char *named = rest[length] == '@' ? folder : rest[length] == '&' ? text_of("%s.utf8", name) : name;
         const char *word = rest[length] == '#' ? text_of("%llu", number) : shown(named);
+        if (rest[length] == '$') word = strcmp(folder, ".") == 0 ? "this folder" : text_of("the folder %s", shown(folder));
         text = text_of("%s%.*s%s", text, (int)length, rest, word);
     }
     return text_of("%s%s", text, rest);

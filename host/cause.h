@@ -51,7 +51,8 @@ enum cause {
 /* The cause of a failed call of the system, by its errno; CAUSE_NONE for 0. */
 enum cause cause_of(int error);
 
-/* The sentence of a cause. In it, `%` stands for FILE's name, `&` for a new name by it, `@` for its folder's, and `#` for a number. */
+/* The sentence of a cause. In it, `%` stands for FILE's name, `&` for a new name by it, `@` for its folder's, `$` for `the folder` and that
+ * name, and `#` for a number. */
 const char *cause_text(enum cause cause);
 
 /* The sentence with this number and these names, quoted for a shell. */

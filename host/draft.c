@@ -6,6 +6,7 @@
 #include <fcntl.h>
 #include <linux/fs.h>
 #include <linux/magic.h>
+#include <stdatomic.h>
 #include <stdio.h>
 #include <stdlib.h>
 #include <string.h>
@@ -25,6 +26,31 @@ enum { TRIES = 20, LOCK_TRIES = 500, LOCK_MS = 10, PIECE = 65536, RIGHTS = 0777 
 enum cause lock_for_save(int file) {
     int error = lock_file(file, LOCK_TRIES, LOCK_MS);
     return is_lacking(error) ? CAUSE_NONE : cause_of(error);
+}
+
+/* ---- the state that a save leaves */
+
+void note_file(struct save *save, const struct file_stamp *now, int itself) {
+    save->state.seen = *now;
+    save->state.is_told = true;
+    if (!now->is_there || !S_ISREG(now->found.st_mode)) return;
+    save->state.old = *now;
+    save->state.is_old_plain = has_access_list(itself) == NO;
+}
+
+/* The same for what is at FILE's name now. */
+static void note_file_now(struct save *save) {
+    struct file_stamp now;
+    int itself;
+    if (stamp_and_open(save->folder, save->file->name, &now, &itself)) note_file(save, &now, itself);
+    close_one(&itself);
+}
+
+void save_publish(const struct save *save) {
+    struct saved *saved = save->saver->saved;
+    unsigned next = (atomic_load(&saved->current) + 1) & 1;
+    saved->slots[next] = save->state;
+    atomic_store(&saved->current, next);
 }
 
 /* ---- names: these functions return 0 or an errno */
@@ -277,7 +303,7 @@ enum cause replace_file(struct save *save) {
         save->state.seen.found.st_size = before.st_size;
         save->state.seen.found.st_mtim = before.st_mtim;
     } else if (cause == CAUSE_CHANGED) {
-        save_note(save);
+        note_file_now(save);
     } else if (is_back) {
         save->state.seen = now;
     }
@@ -291,7 +317,7 @@ enum cause replace_file(struct save *save) {
 /* Records how far the overwriting has come, which a start reads after it was killed: FILE (-1 before it is changed) has so many bytes. A
  * later start does without what cannot be written. */
 static void note_step(const struct save *save, enum step_kind kind, int file, size_t from, size_t to) {
-    char words[MOST_WORDS];
+    char words[FACT_MOST];
     struct stat found = {0};
     const struct stat *seen = &save->state.seen.found;
     if (save->step < 0) return;
@@ -299,7 +325,7 @@ static void note_step(const struct save *save, enum step_kind kind, int file, si
     struct step step = {.kind = kind, .from = from, .to = to, .id = {.device = seen->st_dev, .inode = seen->st_ino},
                         .seconds = found.st_mtim.tv_sec, .nanos = (uint32_t)found.st_mtim.tv_nsec};
     snprintf(step.boot, sizeof step.boot, "%s", save->saver->boot);
-    words_of_step(&step, words);
+    step_text(&step, words);
     if (pwrite(save->step, words, strlen(words), 0) < 0) return;
 }
 
@@ -373,24 +399,37 @@ static unsigned char *read_old(const struct save *save, int file) {
     return NULL;
 }
 
+/* Puts the old text back. If that fails too, FILE is emptied, as a beginning of the old text would count as another program's. */
+static bool put_old_back(const struct save *save, int file, const unsigned char *old, size_t length) {
+    if (ftruncate(file, 0) == 0 && fill(save, file, old, length) == 0) return true;
+    note_step(save, STEP_PARTLY, -1, 0, 0);
+    if (ftruncate(file, 0) != 0) return false;
+    return false;
+}
+
 /* Overwrites the open FILE. If that fails, puts the old text back. */
 static int overwrite(struct save *save, int file) {
-    size_t old_length = (size_t)save->state.seen.found.st_size;
-    unsigned char *old = save->state.is_torn ? NULL : read_old(save, file);
+    struct state *state = &save->state;
+    bool was_torn = state->is_torn;
+    size_t old_length = (size_t)state->seen.found.st_size;
+    unsigned char *old = was_torn ? NULL : read_old(save, file);
     note_step(save, STEP_PARTLY, -1, 0, 0);
+    /* this process may be killed right after FILE is emptied */
+    note_torn(save);
     int error = ftruncate(file, 0) == 0 ? 0 : errno;
-    if (error == 0) {
-        note_torn(save);
+    if (error != 0) {
+        state->is_torn = was_torn;
+    } else {
         error = fill(save, file, save->bytes, save->length);
-        if (error != 0 && old && ftruncate(file, 0) == 0 && fill(save, file, old, old_length) == 0) save->state.is_torn = false;
+        if (error != 0 && old) state->is_torn = !put_old_back(save, file, old, old_length);
         note_own(save, file);
-        /* the backup stays as long as FILE may need it */
-        if (save->state.is_torn) save->draft.name[0] = 0;
-        if (save->state.is_torn) save->state.is_told = false;
+        if (state->is_torn) state->is_told = false;
         /* another program that has written it since, and gave it another size, is found by the next look; some network disks set the time
          * as they sync */
-        if (error == 0) save->state.seen.found.st_size = (off_t)save->length;
+        if (error == 0) state->seen.found.st_size = (off_t)save->length;
     }
+    /* the backup stays as long as FILE may need it */
+    if (state->is_torn) save->draft.name[0] = 0;
     free(old);
     return error;
 }
@@ -399,7 +438,7 @@ enum cause overwrite_file(struct save *save) {
     int file = -1, error = keep_backup(save);
     enum cause cause = error == 0 ? open_to_write(save, &file) : cause_of(error);
     if (cause == CAUSE_NONE) cause = cause_of(overwrite(save, file));
-    else if (cause == CAUSE_CHANGED) save_note(save);
+    else if (cause == CAUSE_CHANGED) note_file_now(save);
     close_one(&file);
     close_one(&save->step);
     if (cause == CAUSE_NONE || !save->state.is_torn) drop_backup(save);

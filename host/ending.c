@@ -39,33 +39,44 @@ static bool has_known_text(const struct file *file, const struct session *sessio
     return (file->text < 0 || sum_file(file->text, &found)) && is_same_sum(&found, &session->about.known);
 }
 
-enum replayed replay(struct edit *edit, const struct session *session, int *text, int64_t limit) {
+void add_begin(struct arguments *arguments, const struct begin *begin, const char *typed) {
+    enum { LONGEST_NAME = 255 };
+    const char *slash = strrchr(typed, '/'), *name = strlen(typed) > LONGEST_NAME && slash ? slash + 1 : typed;
+    add_option(arguments, "--direction", begin->direction);
+    if (begin->line > 0) add_option(arguments, "--line", text_of("%u", begin->line));
+    if (begin->spaces > 0) add_option(arguments, "--spaces", text_of("%u", begin->spaces));
+    if (begin->is_view) add_argument(arguments, "--view");
+    if (begin->is_indented) add_argument(arguments, "--indent");
+    add_option(arguments, "--name", begin->is_nameless ? "" : name);
+}
+
+enum replayed replay(const struct setup *setup, const struct opened *opened, const struct session *session, int *text, int64_t limit) {
     struct run run = {0};
-    struct words words = {.count = 0};
+    struct arguments arguments = {.count = 0};
     const struct begin *begin = &session->about.begin;
     *text = -1;
     if (session->text < 0 || session->journal < 0 || !session->about.has_begin || !session->about.has_text) return REPLAY_UNREADABLE;
     int made = memfd_create("bidi-edit", MFD_CLOEXEC);
     if (made < 0) return REPLAY_FAILED;
-    add_word(&words, edit->programs->editor);
-    add_option(&words, "--rows", text_of("%u", begin->rows));
-    add_option(&words, "--cols", text_of("%u", begin->cols));
-    add_begin(&words, begin, edit->file.typed);
+    add_argument(&arguments, setup->programs->editor);
+    add_option(&arguments, "--rows", text_of("%u", begin->rows));
+    add_option(&arguments, "--cols", text_of("%u", begin->cols));
+    add_begin(&arguments, begin, opened->file.typed);
     /* joined letters change no text and no place */
-    add_tables(&words, &edit->tables, false);
-    if (session_has_mark(session, MARK_UNSAVED)) add_word(&words, "--unsaved");
-    add_option(&words, "--text", handed_path(&run, session->text));
-    add_word(&words, "--frames");
-    add_option(&words, "--replay", handed_path(&run, session->journal));
-    add_option(&words, "--to", handed_path(&run, made));
-    if (edit->file.text >= 0) add_option(&words, "--against", handed_path(&run, edit->file.text));
-    else if (edit->file.stamp.is_there) add_option(&words, "--against", "/dev/null");
-    add_word(&words, edit->file.typed);
-    int status = run_aside(&run, words.words, limit);
+    add_tables(&arguments, &setup->tables, false);
+    if (session_has_mark(session, MARK_UNSAVED)) add_argument(&arguments, "--unsaved");
+    add_option(&arguments, "--text", handed_path(&run, session->text));
+    add_argument(&arguments, "--frames");
+    add_option(&arguments, "--replay", handed_path(&run, session->journal));
+    add_option(&arguments, "--to", handed_path(&run, made));
+    if (opened->file.text >= 0) add_option(&arguments, "--against", handed_path(&run, opened->file.text));
+    else if (opened->file.stamp.is_there) add_option(&arguments, "--against", "/dev/null");
+    add_argument(&arguments, opened->file.typed);
+    int status = run_aside(&run, arguments.arguments, limit);
     enum replayed replayed = replayed_of(&run.said, status);
     if (replayed == REPLAY_UNREADABLE || replayed == REPLAY_FAILED) close(made);
     else *text = made;
-    return replayed == REPLAY_FOREIGN && has_known_text(&edit->file, session) ? REPLAY_KNOWN : replayed;
+    return replayed == REPLAY_FOREIGN && has_known_text(&opened->file, session) ? REPLAY_KNOWN : replayed;
 }
 
 /* Whether FILE has exactly the text of a file of the session. */
@@ -141,36 +152,37 @@ static int open_now(const struct file *file, struct stat *look) {
     return text;
 }
 
-/* Whether FILE is there now. */
 static bool is_there_now(const struct file *file) {
     struct file_stamp stamp;
-    return stamp_again(file, &stamp) && stamp.is_there;
+    return stamp_at(file->folder, file->name, &stamp) && stamp.is_there;
 }
 
 /* Says where the recovered text is, if it was saved as another file. */
-static void tell_aside(const struct edit *edit) {
-    if (edit->aside_of && is_there_now(&edit->file))
-        warn("%s was changed on disk, so the recovered text is in %s", shown(edit->aside_of), shown(edit->file.typed));
+static void tell_aside(const struct opened *opened) {
+    if (opened->aside_of && is_there_now(&opened->file))
+        warn("%s was changed on disk, so the recovered text is in %s", shown(opened->aside_of), shown(opened->file.typed));
 }
 
-/* Repairs FILE after a save into it that was cut off. Returns whether FILE is still torn. */
-static bool mend_now(struct edit *edit) {
-    struct mending mending;
+/* Repairs FILE after a save into it that was cut off. Returns whether the session has a backup that is needed. */
+static bool mend_now(const struct opened *opened, struct session *session, const struct saves *saves) {
+    struct mending mending = {.mended = MENDED_STILL_TORN};
     const char *name;
-    if (edit->is_itself && saver_is_torn(&edit->saver, &name) && name) {
-        mending.mended = MENDED_STILL_TORN;
-        snprintf(mending.backup, sizeof mending.backup, "%s", name);
-        tell_mended(edit, &mending, warn);
+    if (saves->torn.file[0]) {
+        put_path(mending.backup, "%s", saves->torn.backup);
+        tell_mended(saves->torn.file, &mending, warn);
     }
-    if (!edit->is_in_place) return false;
-    if (session_mend(&edit->session, &edit->sessions, &edit->target, &mending)) return session_has(&edit->session, BACKUP_NAME);
-    return tell_mended(edit, &mending, warn);
+    if (saves->is_itself && saver_is_torn(&saves->saver, &name) && name) {
+        put_path(mending.backup, "%s", name);
+        tell_mended(shown(opened->file.typed), &mending, warn);
+    }
+    if (!saves->is_in_place) return saves->torn.file[0] && session_has(session, BACKUP_NAME);
+    if (session_mend(session, &opened->sessions, &opened->target, &mending)) return session_has(session, BACKUP_NAME);
+    return tell_mended(shown(opened->file.typed), &mending, warn);
 }
 
 /* ---- the session */
 
-/* How the program left the text. */
-static enum left_how left_how(enum end_word end, bool is_refused) {
+static enum left_how left_how(enum end_frame end, bool is_refused) {
     if (is_refused) return LEFT_REFUSED;
     switch (end) {
     case END_SAVED: return LEFT_SAVED;
@@ -186,24 +198,24 @@ static void tell_lost(enum left_how how, const char *cause) {
 }
 
 /* Tells that the session's folder is gone, so that nothing unsaved can be recovered. */
-static void tell_gone(const struct edit *edit, enum left_how how) {
-    const char *cause = text_of("the session's folder %s is gone", shown(edit->session.path));
+static void tell_gone(struct session *session, enum left_how how) {
+    const char *cause = text_of("the session's folder %s is gone", shown(session->path));
     if (how == LEFT_DROPPED) warn("only what was saved is kept, since %s", cause);
     else tell_lost(how, cause);
 }
 
 /* Why unsaved text is lost, as the message says it. */
-static const char *cause_of_lost(const struct edit *edit) {
-    if (edit->unkept) return edit->unkept;
-    if (edit->session.is_changed) return text_of("%s was changed before it could be copied", shown(edit->file.typed));
-    if (edit->session.cause) return text_of("nothing can be written in %s", shown(edit->session.path));
-    return text_of("something has removed files from %s", shown(edit->session.path));
+static const char *cause_of_lost(const struct opened *opened, const struct kept *kept) {
+    if (kept->unkept) return kept->unkept;
+    if (kept->session.is_changed) return text_of("%s was changed before it could be copied", shown(opened->file.typed));
+    if (kept->session.cause) return text_of("nothing can be written in %s", shown(kept->session.path));
+    return text_of("something has removed files from %s", shown(kept->session.path));
 }
 
 /* Whether the tables and programs are those with which the session began. */
-static bool has_same_versions(const struct edit *edit) {
-    char versions[MOST_WORDS];
-    return !find_versions(edit->programs, &edit->tables, versions) && strcmp(versions, edit->versions) == 0;
+static bool has_same_versions(const struct setup *setup) {
+    char versions[FACT_MOST];
+    return !find_versions(setup->programs, &setup->tables, versions) && strcmp(versions, setup->versions) == 0;
 }
 
 /* Puts an open text into the session. If this fails, another version of the editor can only replay the keys. */
@@ -219,17 +231,16 @@ static void put_snapshot(struct session *session, int text) {
 
 /* Replays the keys and leaves the resulting text in the session, for a recovery by another version. Returns whether FILE has the same text;
  * false if the replay took too long. */
-static bool leave_text(struct edit *edit) {
-    struct session *session = &edit->session;
+static bool leave_text(const struct setup *setup, struct opened *opened, struct session *session) {
     struct stat look;
     int text;
-    if (session_journal_size(session) > (end_signal ? LONGEST_BY_SIGNAL : LONGEST) || !has_same_versions(edit)) return false;
+    if (session_journal_size(session) > (end_signal ? LONGEST_BY_SIGNAL : LONGEST) || !has_same_versions(setup)) return false;
     /* FILE as it is now */
-    if (edit->file.text >= 0) close(edit->file.text);
-    edit->file.text = open_now(&edit->file, &look);
-    leave_out_mark(&edit->file.text);
-    edit->file.stamp.is_there = is_there_now(&edit->file);
-    enum replayed found = replay(edit, session, &text, within(end_signal ? REPLAY_BY_SIGNAL_MS : REPLAY_MS));
+    if (opened->file.text >= 0) close(opened->file.text);
+    opened->file.text = open_now(&opened->file, &look);
+    leave_out_mark(&opened->file.text);
+    opened->file.stamp.is_there = is_there_now(&opened->file);
+    enum replayed found = replay(setup, opened, session, &text, within(end_signal ? REPLAY_BY_SIGNAL_MS : REPLAY_MS));
     if (text < 0) return false;
     put_snapshot(session, text);
     close(text);
@@ -243,33 +254,33 @@ static bool is_folder_gone(const struct file *file) {
 }
 
 /* If FILE's folder was renamed, records FILE's new path, so that the session is found by it. */
-static void note_moved(struct edit *edit) {
+static void note_moved(struct opened *opened, struct session *session) {
     char folder[PATH_MAX];
-    const struct file *file = &edit->file;
+    const struct file *file = &opened->file;
     if (is_folder_gone(file) || !path_of(file->folder, folder)) return;
     bool has_moved = strcmp(folder, file->folder_path) != 0;
-    if (has_moved) edit->moved = text_of("%s/%s", before_slash(folder), file->name);
-    if (has_moved && edit->aside_of) put_path(edit->session.about.beside, "%s", edit->moved);
-    target_look(&edit->target, has_moved ? edit->moved : file->path, file->folder, file->name);
-    session_note_file(&edit->session, &edit->target);
+    if (has_moved) opened->moved = text_of("%s/%s", before_slash(folder), file->name);
+    if (has_moved && opened->aside_of) put_path(session->about.beside, "%s", opened->moved);
+    target_look(&opened->target, has_moved ? opened->moved : file->path, file->folder, file->name);
+    session_record_file(session, &opened->target);
 }
 
 /* Collects what decides the session's fate. On the way it leaves the replayed text in the session. */
 static struct left left_of(struct edit *edit, enum left_how how) {
-    struct session *session = &edit->session;
+    struct session *session = &edit->kept.session;
     struct left left = {.how = how, .is_there = session_is_there(session)};
     if (!left.is_there) return left;
-    left.is_torn = mend_now(edit);
+    left.is_torn = mend_now(&edit->opened, session, &edit->saves);
     left.has_keys = session_has_keys(session) || session_has_mark(session, MARK_UNSAVED);
     bool is_wanted = left.is_torn || (left.has_keys && how != LEFT_SAVED);
-    if (is_wanted) note_moved(edit);
-    if (edit->facts.is_journal_lost && is_wanted) {
+    if (is_wanted) note_moved(&edit->opened, session);
+    if (edit->kept.facts.is_journal_lost && is_wanted) {
         session->about.marks |= MARK_CUT;
         session->is_about_due = true;
     }
-    left.is_filled = is_wanted && session_settle(session, end_signal != 0);
+    left.is_filled = is_wanted && session_complete(session, end_signal != 0);
     left.is_secret = session_has_mark(session, MARK_SECRET);
-    left.is_same = left.is_filled && left.has_keys && leave_text(edit);
+    left.is_same = left.is_filled && left.has_keys && leave_text(&edit->setup, &edit->opened, session);
     return left;
 }
 
@@ -284,49 +295,49 @@ static bool leads_to_path(const char *typed, const char *path) {
 
 /* Says what is kept (`what` begins the line) and the command that restores it (`behind` ends the line). If FILE's folder is gone or was
  * renamed, it also names the session's folder, and FILE by its path. */
-static void tell_kept(const struct edit *edit, const char *what, const char *behind) {
-    const char *cut = edit->facts.is_journal_lost ? " up to where its journal could not be written" : "";
+static void tell_kept(const struct opened *opened, const struct kept *kept, const char *what, const char *behind) {
+    const char *cut = kept->facts.is_journal_lost ? " up to where its journal could not be written" : "";
     /* what is not saved beside FILE is found under FILE's name */
-    const char *typed = edit->aside_of && !is_there_now(&edit->file) ? edit->aside_of : edit->file.typed;
-    const char *path = edit->moved ? edit->moved : edit->file.path;
-    if (is_nameless(edit)) {
+    const char *typed = opened->aside_of && !is_there_now(&opened->file) ? opened->aside_of : opened->file.typed;
+    const char *path = opened->moved ? opened->moved : opened->file.path;
+    if (is_nameless(opened)) {
         warn("%s%s: bidi-edit --recover%s", what, cut, behind);
         return;
     }
-    bool is_found = !is_folder_gone(&edit->file) && !edit->moved && (typed == edit->aside_of || leads_to_path(typed, path));
-    const char *where = is_found ? "" : text_of(" in %s", shown(edit->session.path));
+    bool is_found = !is_folder_gone(&opened->file) && !opened->moved && (typed == opened->aside_of || leads_to_path(typed, path));
+    const char *where = is_found ? "" : text_of(" in %s", shown(kept->session.path));
     warn("%s%s%s: bidi-edit --recover %s%s", what, cut, where, shown(is_found ? typed : path), behind);
 }
 
 /* Keeps a session whose changes were dropped, as the only one of its kind, so that a hasty Quit can be undone. */
-static void drop_changes(struct edit *edit) {
-    sessions_forget_dropped(&edit->sessions, &edit->session);
+static void drop_changes(const struct opened *opened, struct kept *kept) {
+    sessions_forget_dropped(&opened->sessions, &kept->session);
     /* if this fails, the next start asks about the session */
-    session_mark(&edit->session, MARK_DROPPED);
-    tell_kept(edit, "the dropped changes can be recovered", "");
+    session_mark(&kept->session, MARK_DROPPED);
+    tell_kept(opened, kept, "the dropped changes can be recovered", "");
 }
 
 /* Removes a session whose changes were dropped, as it has text that only root could read. */
-static void wipe_changes(struct edit *edit) {
-    enum cause cause = session_remove(&edit->session);
-    if (!cause) warn("the dropped changes are not kept, since only root can read %s", shown(edit->file.typed));
-    else warn("the dropped changes cannot be deleted from %s%s", shown(edit->session.path), fault_words(cause));
+static void wipe_changes(const struct opened *opened, struct session *session) {
+    enum cause cause = session_remove(session);
+    if (!cause) warn("the dropped changes are not kept, since only root can read %s", shown(opened->file.typed));
+    else warn("the dropped changes cannot be deleted from %s%s", shown(session->path), fault_text(cause));
 }
 
 /* Ends a session that was kept, by its fate, and tells what is lost. FATE_REMOVED is silent unless keys were lost. */
 static void end_kept(struct edit *edit, enum left_how how) {
-    struct session *session = &edit->session;
+    struct session *session = &edit->kept.session;
     struct left left = left_of(edit, how);
     switch (fate_of(&left)) {
-    case FATE_GONE: tell_gone(edit, how); break;
+    case FATE_GONE: tell_gone(session, how); break;
     case FATE_REMOVED:
-        if (!left.has_keys && edit->facts.is_journal_lost) tell_lost(how, "the journal could not be written");
+        if (!left.has_keys && edit->kept.facts.is_journal_lost) tell_lost(how, "the journal could not be written");
         session_remove(session);
         break;
-    case FATE_LOST: tell_lost(how, cause_of_lost(edit)); break;
-    case FATE_DROPPED: drop_changes(edit); break;
-    case FATE_WIPED: wipe_changes(edit); break;
-    case FATE_KEPT: tell_kept(edit, "unsaved text is kept", " restores it"); break;
+    case FATE_LOST: tell_lost(how, cause_of_lost(&edit->opened, &edit->kept)); break;
+    case FATE_DROPPED: drop_changes(&edit->opened, &edit->kept); break;
+    case FATE_WIPED: wipe_changes(&edit->opened, session); break;
+    case FATE_KEPT: tell_kept(&edit->opened, &edit->kept, "unsaved text is kept", " restores it"); break;
     }
 }
 
@@ -339,14 +350,14 @@ static void tell_signal(int status) {
 }
 
 int end_session(struct edit *edit) {
-    bool is_refused = tell_fault_of(&edit->file, &edit->run.said) || !edit->run.said.is_opened;
+    bool is_refused = tell_fault_of(&edit->opened.file, &edit->run.said) || !edit->run.said.is_opened;
     enum left_how how = left_how(edit->run.said.end, is_refused);
-    tell_aside(edit);
-    if (!session_is_none(&edit->session)) {
+    tell_aside(&edit->opened);
+    if (!session_is_none(&edit->kept.session)) {
         end_kept(edit, how);
     } else {
-        mend_now(edit);
-        if (!edit->facts.is_unwanted && edit->unkept) tell_lost(how, edit->unkept);
+        mend_now(&edit->opened, &edit->kept.session, &edit->saves);
+        if (!edit->kept.facts.is_unwanted && edit->kept.unkept) tell_lost(how, edit->kept.unkept);
     }
     tell_signal(edit->run.status);
     /* once the text is saved or dropped, later faults do not count */

@@ -132,10 +132,6 @@ bool stamp_and_open(int folder, const char *name, struct file_stamp *stamp, int 
     return stamp->is_there;
 }
 
-bool stamp_again(const struct file *file, struct file_stamp *stamp) {
-    return stamp_at(file->folder, file->name, stamp);
-}
-
 bool find_id(int at, struct file_id *id) {
     struct stat found;
     struct statx told;
@@ -287,14 +283,9 @@ bool put_mark(int *text) {
 
 void read_into_memory(int *source) {
     static char bytes[LARGEST_TEXT + sizeof BYTE_ORDER_MARK];
-    size_t length = 0;
-    ssize_t count = 1;
     int copy = memfd_create("bidi-edit", MFD_CLOEXEC);
-    while (copy >= 0 && count > 0 && length < sizeof bytes) {
-        count = read(*source, bytes + length, sizeof bytes - length);
-        if (count > 0) length += (size_t)count;
-    }
-    int error = copy < 0 || count < 0 ? errno : write_bytes(copy, bytes, length);
+    ssize_t length = copy < 0 ? -1 : read_all(*source, bytes, sizeof bytes);
+    int error = length < 0 ? errno : write_bytes(copy, bytes, (size_t)length);
     close_one(source);
     if (error) close_one(&copy);
     *source = copy;
@@ -318,8 +309,10 @@ static bool open_name(struct file *file, const char *typed) {
     if (file->folder < 0) return false;
     put_path(file->folder_name, "%s", folder);
     name_paths(file);
-    find_id(file->folder, &file->folder_id);
-    return true;
+    /* by which later saves find the folder again */
+    bool is_known = find_id(file->folder, &file->folder_id);
+    if (!is_known) close_one(&file->folder);
+    return is_known;
 }
 
 enum cause open_new_file(struct file *file, const char *typed) {

@@ -36,7 +36,6 @@ struct facts {
 void find_facts(int at, int folder, struct facts *facts);
 void find_folder_facts(int folder, struct facts *facts);
 
-/* Single facts. */
 bool is_in_memory(int at);
 uint64_t free_room(int at);
 enum answer has_access_list(int at);
@@ -130,9 +129,6 @@ bool stamp_at(int folder, const char *name, struct file_stamp *stamp);
 /* The same, and opens what is there by O_PATH, so that all later questions are about one file. `itself` is -1 if nothing is there, or
  * at a fault. */
 bool stamp_and_open(int folder, const char *name, struct file_stamp *stamp, int *itself);
-
-/* Looks at FILE's name now. */
-bool stamp_again(const struct file *file, struct file_stamp *stamp);
 
 /* Whether both are the same file; whether it is also unchanged, by size, times, owner, permissions and number of names. */
 bool is_same_file(const struct stat *one, const struct stat *other);

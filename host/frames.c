@@ -29,33 +29,33 @@ bool write_frame(int file, enum frame_letter letter, const void *bytes, size_t l
     }
 }
 
-/* The length of the word at the start of these bytes; 0 if they are no word; more than `length` if the word is not complete yet. All words but
+/* The length of the frame at the start of these bytes; 0 if they are none; more than `length` if the frame is not complete yet. All frames but
  * one are so short that their second byte is a NUL, so no text looks like them. */
-static size_t word_length(const unsigned char *held, size_t length) {
+static size_t frame_length(const unsigned char *held, size_t length) {
     static const struct {
         char letter;
         size_t most;
-    } words[] = {{FRAME_OPENED, 0}, {FRAME_JOURNAL, 4}, {FRAME_END, 7}, {FRAME_REPLAYED, 64}, {FRAME_FAULT, WORD_MOST}};
-    for (size_t i = 0; i < sizeof words / sizeof *words; i++) {
-        if ((char)held[0] != words[i].letter || (length > 1 && held[1] > words[i].most >> 8)) continue;
+    } limits[] = {{FRAME_OPENED, 0}, {FRAME_JOURNAL, 4}, {FRAME_END, 7}, {FRAME_REPLAYED, 64}, {FRAME_FAULT, FRAME_TEXT_MOST}};
+    for (size_t i = 0; i < sizeof limits / sizeof *limits; i++) {
+        if ((char)held[0] != limits[i].letter || (length > 1 && held[1] > limits[i].most >> 8)) continue;
         if (length < FRAME_HEAD) return FRAME_HEAD;
-        return length_in(held) > words[i].most ? 0 : FRAME_HEAD + length_in(held);
+        return length_in(held) > limits[i].most ? 0 : FRAME_HEAD + length_in(held);
     }
     return 0;
 }
 
 /* Takes the first byte that is held for other text. */
-static void drop_byte(struct word_reader *reader) {
+static void drop_byte(struct frame_reader *reader) {
     if (reader->foreign_length < sizeof reader->foreign) reader->foreign[reader->foreign_length++] = (char)reader->bytes[0];
     memmove(reader->bytes, reader->bytes + 1, --reader->length);
 }
 
-void take_words(struct word_reader *reader, const unsigned char *bytes, size_t length, void (*hear)(const struct frame *, void *),
+void take_frames(struct frame_reader *reader, const unsigned char *bytes, size_t length, void (*hear)(const struct frame *, void *),
                 void *whose) {
     for (size_t i = 0; i < length; i++) {
         struct frame frame;
         reader->bytes[reader->length++] = bytes[i];
-        while (reader->length > 0 && word_length(reader->bytes, reader->length) == 0) drop_byte(reader);
+        while (reader->length > 0 && frame_length(reader->bytes, reader->length) == 0) drop_byte(reader);
         if (find_frame(reader->bytes, reader->length, &frame) == 0) continue;
         reader->bytes[reader->length] = 0;
         reader->length = 0;
@@ -63,14 +63,14 @@ void take_words(struct word_reader *reader, const unsigned char *bytes, size_t l
     }
 }
 
-void end_words(struct word_reader *reader) {
+void end_frames(struct frame_reader *reader) {
     while (reader->length > 0) drop_byte(reader);
 }
 
-enum end_word end_word_of(const char *text) {
+enum end_frame end_frame_of(const char *text) {
     static const char *const words[] = {[END_SAVED] = "saved", [END_UNSAVED] = "unsaved", [END_DROPPED] = "dropped",
                                         [END_INPUT] = "input", [END_OUTPUT] = "output",   [END_READS] = "reads"};
-    for (enum end_word word = END_SAVED; word <= END_READS; word++)
-        if (strcmp(text, words[word]) == 0) return word;
+    for (enum end_frame end = END_SAVED; end <= END_READS; end++)
+        if (strcmp(text, words[end]) == 0) return end;
     return END_NONE;
 }

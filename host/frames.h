@@ -15,7 +15,7 @@ enum frame_letter {
     FRAME_IDLE = 'i',
     FRAME_NOTICE = 'n',
     /* From the program's standard error. OPENED: FILE was read and can be edited. FAULT: KIND or KIND VALUE. JOURNAL: `lost` or `kept`.
-     * REPLAYED: WORD KEYS. END: the last frame, a word of enum end_word. */
+     * REPLAYED: WORD KEYS. END: the last frame, a word of enum end_frame. */
     FRAME_OPENED = 'o',
     FRAME_FAULT = 'f',
     FRAME_JOURNAL = 'j',
@@ -51,11 +51,11 @@ enum { BEGIN_OVER = 'o', BEGIN_AS = 'n' };
 
 /* How the program ended, by its last frame. SAVED: all is saved. UNSAVED: the input ended with unsaved changes. DROPPED: the user
  * dropped them. INPUT, OUTPUT: an error of input or output. READS: more reads than can be counted. NONE: it did not say. */
-enum end_word { END_NONE, END_SAVED, END_UNSAVED, END_DROPPED, END_INPUT, END_OUTPUT, END_READS };
+enum end_frame { END_NONE, END_SAVED, END_UNSAVED, END_DROPPED, END_INPUT, END_OUTPUT, END_READS };
 
-/* FRAME_HEAD: the bytes of letter and length. WORD_MOST: the most bytes of a frame on standard error. They are so few that the
+/* FRAME_HEAD: the bytes of letter and length. FRAME_TEXT_MOST: the most bytes of a frame on standard error. They are so few that the
  * second byte of a frame is a control character, so no other text looks like a frame. */
-enum { FRAME_HEAD = 3, FRAME_MOST = 65535, FRAME_PIECE_MOST = 1024, WORD_MOST = 2047 };
+enum { FRAME_HEAD = 3, FRAME_MOST = 65535, FRAME_PIECE_MOST = 1024, FRAME_TEXT_MOST = 2047 };
 
 struct frame {
     char letter;
@@ -70,23 +70,23 @@ size_t find_frame(const unsigned char *held, size_t length, struct frame *frame)
  * if it was not written; errno is EAGAIN without room. */
 bool write_frame(int file, enum frame_letter letter, const void *bytes, size_t length);
 
-/* Reads the program's standard error: frames, which are called words, and other text, such as a crash message, of which the first bytes
+/* Reads the program's standard error: frames, and other text, such as a crash message, of which the first bytes
  * are kept as `foreign`. */
 enum { FOREIGN_MOST = 4096 };
-struct word_reader {
-    unsigned char bytes[FRAME_HEAD + WORD_MOST + 1];
+struct frame_reader {
+    unsigned char bytes[FRAME_HEAD + FRAME_TEXT_MOST + 1];
     size_t length, foreign_length;
     char foreign[FOREIGN_MOST];
 };
 
-/* Adds bytes, and calls `hear` for each word that is complete. The word's bytes, followed by a NUL, are valid only during the call. */
-void take_words(struct word_reader *reader, const unsigned char *bytes, size_t length, void (*hear)(const struct frame *, void *),
-                void *whose);
+/* Adds bytes, and calls `hear` for each frame that is complete. The frame's bytes, followed by a NUL, are valid only during the call. */
+void take_frames(struct frame_reader *reader, const unsigned char *bytes, size_t length, void (*hear)(const struct frame *, void *),
+                 void *whose);
 
-/* Called at the end of standard error: bytes that are no complete word count as other text. */
-void end_words(struct word_reader *reader);
+/* Called at the end of standard error: bytes that are no complete frame count as other text. */
+void end_frames(struct frame_reader *reader);
 
-/* The end that a word names. */
-enum end_word end_word_of(const char *text);
+/* The end that the text of such a frame names. */
+enum end_frame end_frame_of(const char *text);
 
 #endif

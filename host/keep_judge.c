@@ -54,7 +54,7 @@ enum notice notice_of(enum cause cause) {
     }
 }
 
-const char *fault_words(enum cause cause) {
+const char *fault_text(enum cause cause) {
     switch (cause) {
     case CAUSE_NO_SPACE: return ": no space";
     case CAUSE_FOLDER_GONE: return ": its folder is gone";
@@ -81,7 +81,7 @@ enum notice trouble_now(const struct now_facts *facts) {
     return facts->told != NOTICE_NONE && facts->told != NOTICE_FOLDER_GONE ? facts->told : facts->journal;
 }
 
-enum title_note title_note_of(const struct now_facts *facts, enum notice trouble) {
+enum title_state title_state_of(const struct now_facts *facts, enum notice trouble) {
     if (facts->is_unwanted) return TITLE_UNKEPT;
     if (trouble == NOTICE_NONE) return TITLE_KEPT;
     bool has_text = facts->has_session && (facts->is_filled || facts->keeping == KEEPS || facts->keeping == KEEPS_SOON);

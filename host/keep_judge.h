@@ -10,8 +10,8 @@
 
 /* ---- answers, in small letters and without blanks around them */
 
-/* What an answer chooses for an unfinished session. CHOICE_ASK_AGAIN: the letter d alone, which may be a slip, so another question
- * follows. */
+/* What an answer chooses for an unfinished session. CHOICE_ASK_AGAIN: the letter d alone, which may be a slip, so the word or a digit is asked
+ * for. */
 enum choice { CHOICE_NONE, CHOICE_RECOVER, CHOICE_DELETE, CHOICE_ASK_AGAIN, CHOICE_LATER };
 enum choice choice_of(const char *answer);
 
@@ -28,7 +28,7 @@ bool is_word(const char *answer, const char *word);
 enum notice notice_of(enum cause cause);
 
 /* What messages add about a file that cannot be written; empty where there is nothing to add. */
-const char *fault_words(enum cause cause);
+const char *fault_text(enum cause cause);
 
 /* ---- a session while its program runs */
 
@@ -49,8 +49,8 @@ struct now_facts {
 enum notice trouble_now(const struct now_facts *facts);
 
 /* What the title adds to FILE's name. */
-enum title_note { TITLE_KEPT, TITLE_UNKEPT, TITLE_LOST };
-enum title_note title_note_of(const struct now_facts *facts, enum notice trouble);
+enum title_state { TITLE_KEPT, TITLE_UNKEPT, TITLE_LOST };
+enum title_state title_state_of(const struct now_facts *facts, enum notice trouble);
 
 /* ---- a session at its end */
 

@@ -5,6 +5,7 @@
 #include <fcntl.h>
 #include <signal.h>
 #include <stdint.h>
+#include <stdio.h>
 #include <string.h>
 #include <sys/prctl.h>
 #include <unistd.h>
@@ -57,29 +58,44 @@ static enum notice cause_of_loss(const struct session *session) {
     return notice == NOTICE_FOLDER_GONE ? NOTICE_UNKEPT : notice;
 }
 
+/* The text gets a new name, and a save into FILE was cut off before. FILE gets the text of that save, or its backup waits for a start of FILE in
+ * a session of its own. */
+static void leave_file(const struct opened *opened, struct session *session, struct saves *saves) {
+    struct mending mending;
+    if (!session_has(session, BACKUP_NAME)) return;
+    if (session_mend(session, &opened->sessions, &opened->target, &mending)) mending.mended = MENDED_STILL_TORN;
+    if (mending.mended != MENDED_STILL_TORN) return;
+    session_path_of(session, BACKUP_NAME, saves->torn.backup);
+    snprintf(saves->torn.file, sizeof saves->torn.file, "%s", shown(opened->file.typed));
+    session_leave_backup(session, &opened->sessions, &opened->target, saves->torn.backup);
+}
+
 /* A successful save replaces FILE by a new file, maybe under a new name. The session records that file, by which it is found later. */
-static void note_saved(struct edit *edit) {
+static void note_saved(struct opened *opened, struct kept *kept, struct saves *saves) {
+    struct session *session = &kept->session;
     struct file_stamp stamp;
-    edit->was_saved = true;
-    if (take_new_file(edit)) {
-        edit->file.folder = edit->target.folder = open_folder(AT_FDCWD, edit->file.folder_path);
-        edit->session.about.beside[0] = 0;
-        if (edit->begin.is_nameless) put_path(edit->session.about.name, "%s", saver_new_file(&edit->saver)->raw);
+    saves->was_saved = true;
+    if (saves->is_in_place && saver_new_file(&saves->saver)) leave_file(opened, session, saves);
+    if (take_new_file(opened, saves)) {
+        session->about.marks &= ~(unsigned)MARK_IN_PLACE;
+        opened->file.folder = opened->target.folder = open_folder(AT_FDCWD, opened->file.folder_path);
+        session->about.beside[0] = 0;
+        if (kept->begin.is_nameless) put_path(session->about.name, "%s", saver_new_file(&saves->saver)->raw);
     }
-    if (session_is_none(&edit->session)) return;
-    session_note_saved(&edit->session);
-    if (!saver_stamp(&edit->saver, &stamp, &edit->target.id)) return;
-    edit->target.is_there = stamp.is_there;
-    session_note_file(&edit->session, &edit->target);
+    if (session_is_none(session)) return;
+    session_record_saved(session);
+    if (!saver_stamp(&saves->saver, &stamp, &opened->target.id)) return;
+    opened->target.is_there = stamp.is_there;
+    session_record_file(session, &opened->target);
 }
 
 /* Looks after the session, and reports. The first time, this has its files written. */
 static void mind(struct edit *edit, int report) {
-    struct session *session = &edit->session;
+    struct session *session = &edit->kept.session;
     struct report said = {.keeping = session_mind(session), .cause = session->cause, .is_filled = session->about.has_text};
     /* of a FILE that was refused the end says more */
-    if (said.is_filled && edit->run.said.is_opened) release_file(&edit->file);
-    said.journal = edit->facts.is_journal_lost ? cause_of_loss(session) : NOTICE_NONE;
+    if (said.is_filled && edit->run.said.is_opened) release_file(&edit->opened.file);
+    said.journal = edit->kept.facts.is_journal_lost ? cause_of_loss(session) : NOTICE_NONE;
     /* a host that reads none is ending */
     if (write(report, &said, sizeof said) < 0) errno = 0;
 }
@@ -104,8 +120,8 @@ static _Noreturn void end_as_told(struct edit *edit, int file) {
     if (ending.signal) note_end_at(ending.signal, ending.signal_time);
     edit->run.said = ending.said;
     edit->run.status = ending.status;
-    edit->was_saved = ending.was_saved;
-    edit->facts.is_journal_lost = ending.is_journal_lost;
+    edit->saves.was_saved = ending.was_saved;
+    edit->kept.facts.is_journal_lost = ending.is_journal_lost;
     is_telling_limited = true;
     _exit(end_session(edit));
 }
@@ -117,26 +133,26 @@ static _Noreturn void end_alone(struct session *session, int program) {
     if (session_is_none(session)) _exit(0);
     if (program >= 0) poll(&ended, 1, LONGEST_END_MS);
     if (session_journal_size(session) == 0 && session->about.has_text && !session_has(session, BACKUP_NAME)) session_remove(session);
-    else session_settle(session, true);
+    else session_complete(session, true);
     _exit(0);
 }
 
 /* The keeper's life: looks after the session each second and after each order, until the end. */
 static _Noreturn void keep(struct edit *edit, int order_file, int report, int program) {
-    bool has_session = !session_is_none(&edit->session);
+    bool has_session = !session_is_none(&edit->kept.session);
     /* the host has announced FILE, and may announce another one */
     note_open_file(NULL);
     for (char order = 0;;) {
         if (has_session && order != ORDER_END) mind(edit, report);
         struct pollfd told = {.fd = order_file, .events = POLLIN};
         /* signals to the whole job wait until the end */
-        int count = poll(&told, 1, !has_session ? -1 : session_is_due(&edit->session) ? 0 : MIND_MS);
+        int count = poll(&told, 1, !has_session ? -1 : session_is_due(&edit->kept.session) ? 0 : MIND_MS);
         order = 0;
         if (count <= 0) continue;
-        if (!read_whole(order_file, &order, 1)) end_alone(&edit->session, program);
+        if (!read_whole(order_file, &order, 1)) end_alone(&edit->kept.session, program);
         if (order == ORDER_END) end_as_told(edit, order_file);
-        if (order == ORDER_SAVED) note_saved(edit);
-        if (order == ORDER_LOST || order == ORDER_KEPT) edit->facts.is_journal_lost = order == ORDER_LOST;
+        if (order == ORDER_SAVED) note_saved(&edit->opened, &edit->kept, &edit->saves);
+        if (order == ORDER_LOST || order == ORDER_KEPT) edit->kept.facts.is_journal_lost = order == ORDER_LOST;
     }
 }
 
@@ -202,8 +218,9 @@ void keeper_hear(struct now_facts *facts) {
 
 /* Says why the session was not ended, and what becomes of the text. */
 static int leave_end(const struct edit *edit, const char *why) {
-    enum end_word end = edit->run.said.end;
-    const char *kept = end == END_SAVED || !edit->facts.has_session ? "" : text_of("; what is kept of unsaved text: bidi-edit --recover%s", name_word(edit, edit->file.typed));
+    enum end_frame end = edit->run.said.end;
+    const char *name = name_word(&edit->opened, edit->opened.file.typed);
+    const char *kept = end == END_SAVED || !edit->kept.facts.has_session ? "" : text_of("; what is kept of unsaved text: bidi-edit --recover%s", name);
     kill_child(&keeper);
     warn("%s%s", why, kept);
     return end == END_SAVED || end == END_DROPPED ? 0 : edit->run.status;
@@ -216,15 +233,15 @@ int keeper_end(struct edit *edit) {
     int64_t start = now();
     if (keeper == 0 && !keeper_start(edit)) return end_session(edit);
     ending = (struct ending){.said = edit->run.said, .status = edit->run.status, .signal = end_signal, .signal_time = last_moment() - END_MS,
-                             .was_saved = edit->was_saved, .is_journal_lost = edit->facts.is_journal_lost};
+                             .was_saved = edit->saves.was_saved, .is_journal_lost = edit->kept.facts.is_journal_lost};
     tell_keeper(ORDER_END);
     if (orders < 0 || write(orders, &ending, sizeof ending) != (ssize_t)sizeof ending) return leave_end(edit, "the process that keeps the session has ended");
     while (!wait_for_child(&keeper, &status, now() + STEP_MS)) {
         if (end_signal && !is_forwarded) is_forwarded = kill(keeper, end_signal) == 0;
-        if (end_signal && (is_told || now() >= last_moment())) return leave_end(edit, "a disk does not answer");
+        if (end_signal && (is_told || now() >= last_moment())) return leave_end(edit, "a disk does not respond");
         if (is_told || now() < start + TELL_MS) continue;
         is_told = true;
-        warn("waiting for a disk that does not answer: Ctrl-C ends this");
+        warn("waiting for a disk that does not respond: Ctrl-C stops the wait");
     }
     return shell_status(status);
 }

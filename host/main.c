@@ -16,7 +16,7 @@
 #include "signals.h"
 #include "terminal.h"
 #include "util.h"
-#include "words.h"
+#include "command_line.h"
 
 /* Opens standard input, output and error where they are closed, so that no other file gets their numbers. */
 static void open_standard_files(void) {
@@ -76,13 +76,8 @@ static int refuse(int status, const char *why) {
 static const char *check_text(const char *typed, int text, bool is_plain) {
     static char bytes[LARGEST_TEXT + 1];
     static struct file file;
-    ssize_t count = 1;
-    size_t length = 0;
-    while (count > 0 && length <= LARGEST_TEXT) {
-        count = pread(text, bytes + length, LARGEST_TEXT + 1 - length, (off_t)length);
-        if (count > 0) length += (size_t)count;
-    }
-    size_t valid = utf8_length(bytes, length);
+    ssize_t count = lseek(text, 0, SEEK_SET) == 0 ? read_all(text, bytes, sizeof bytes) : -1;
+    size_t length = count > 0 ? (size_t)count : 0, valid = utf8_length(bytes, length);
     unsigned long long text_line = 1;
     for (size_t i = 0; i < valid; i++) text_line += bytes[i] == '\n';
     file.typed = typed;
@@ -126,21 +121,21 @@ static unsigned usual_columns(void) {
 /* Becomes the printing program, or returns the exit status of a refusal. */
 static int print_file(const struct call *call, const struct programs *programs) {
     struct tables tables;
-    struct words words = {.count = 0};
+    struct arguments arguments = {.count = 0};
     int text = -1;
     const char *cause = find_tables(&tables, programs->tables);
     if (!cause) cause = open_printed(call->file, &text);
     if (!cause && is_output_closed) cause = "standard output is closed";
     if (cause) return refuse(STATUS_FAULT, cause);
-    add_word(&words, programs->printer);
-    add_option(&words, "--cols", text_of("%u", call->columns > 0 ? call->columns : usual_columns()));
-    add_option(&words, "--direction", direction_word(call->direction));
-    if (call->has_marks) add_word(&words, "--marks");
-    add_tables(&words, &tables, !call->is_unjoined);
-    add_word(&words, link_of(text).path);
+    add_argument(&arguments, programs->printer);
+    add_option(&arguments, "--cols", text_of("%u", call->columns > 0 ? call->columns : usual_columns()));
+    add_option(&arguments, "--direction", direction_word(call->direction));
+    if (call->has_marks) add_argument(&arguments, "--marks");
+    add_tables(&arguments, &tables, !call->is_unjoined);
+    add_argument(&arguments, link_of(text).path);
     fcntl(text, F_SETFD, 0);
     give_back_signals();
-    execv(programs->printer, words.words);
+    execv(programs->printer, arguments.arguments);
     return refuse(STATUS_FAULT, text_of("%s cannot be started: %s", programs->printer, strerror(errno)));
 }
 
@@ -161,38 +156,38 @@ static int run_editor(struct edit *edit, bool is_taken) {
 }
 
 /* Warns that an empty text is opened in place of FILE's, and of files that killed saves left. */
-static void tell_unusual(const struct edit *edit) {
-    if (edit->file.is_unreadable)
-        warn("%s cannot be read: the text starts empty, and a save overwrites the file", shown(edit->file.typed));
-    const char *leftovers = leftovers_line(&edit->file);
+static void tell_unusual(const struct opened *opened) {
+    if (opened->file.is_unreadable)
+        warn("%s cannot be read: the text starts empty, and a save overwrites the file", shown(opened->file.typed));
+    const char *leftovers = leftovers_line(&opened->file);
     if (leftovers) warn("%s", leftovers);
 }
 
 /* Reads a text from standard input. */
-static int read_piped(struct edit *edit) {
+static int read_piped(struct opened *opened) {
     struct stat look;
     const char *why = "- is standard input, and a terminal: give a text by a pipe, as in: something | bidi-edit -";
     if (isatty(STDIN_FILENO)) return refuse(STATUS_NO, why);
-    edit->piped = fcntl(STDIN_FILENO, F_DUPFD_CLOEXEC, 3);
-    if (edit->piped >= 0) read_into_memory(&edit->piped);
-    if (edit->piped < 0 || fstat(edit->piped, &look) != 0) return refuse(STATUS_FAULT, text_of("standard input cannot be read: %s", strerror(errno)));
-    edit->has_piped_mark = leave_out_mark(&edit->piped);
-    why = check_text("-", edit->piped, false);
+    opened->piped = fcntl(STDIN_FILENO, F_DUPFD_CLOEXEC, 3);
+    if (opened->piped >= 0) read_into_memory(&opened->piped);
+    if (opened->piped < 0 || fstat(opened->piped, &look) != 0) return refuse(STATUS_FAULT, text_of("standard input cannot be read: %s", strerror(errno)));
+    opened->has_piped_mark = leave_out_mark(&opened->piped);
+    why = check_text("-", opened->piped, false);
     return why ? refuse(STATUS_FAULT, why) : GO_ON;
 }
 
 /* A start with FILE: FILE's checks, a terminal, FILE's earlier sessions, and then the program. After a question FILE is checked anew. */
 static int edit_file(struct edit *edit) {
-    int status = edit->call->is_piped ? read_piped(edit) : GO_ON;
-    if (status == GO_ON) status = check_file(edit, edit->call->file);
+    int status = edit->call->is_piped ? read_piped(&edit->opened) : GO_ON;
+    if (status == GO_ON) status = check_file(edit->call, &edit->opened);
     if (status == GO_ON) status = check_terminal();
     if (status != GO_ON) return status;
-    tell_unusual(edit);
+    tell_unusual(&edit->opened);
     /* a session would take the place of what was read */
     status = edit->call->is_piped ? GO_ON : meet_sessions(edit);
     if (status == TAKEN) return run_editor(edit, true);
     /* FILE may have changed meanwhile */
-    if (status == ASKED) status = check_file(edit, edit->call->file);
+    if (status == ASKED) status = check_file(edit->call, &edit->opened);
     return status == GO_ON ? run_editor(edit, false) : status;
 }
 
@@ -202,32 +197,32 @@ static int edit_recovered(struct edit *edit) {
     int status = check_terminal();
     if (status == GO_ON) status = recover_session(edit);
     bool is_taken = status == TAKEN;
-    if (status == ASKED) status = check_file(edit, edit->call->file);
+    if (status == ASKED) status = check_file(edit->call, &edit->opened);
     if (!is_taken && status != GO_ON) return status;
-    tell_unusual(edit);
+    tell_unusual(&edit->opened);
     return run_editor(edit, is_taken);
 }
 
 /* Warns of a variable that is ignored: an XDG_STATE_HOME that is not absolute. */
 static void tell_variables(void) {
-    const char *state = getenv("XDG_STATE_HOME");
-    if (state && is_state_home_relative()) warn("XDG_STATE_HOME is ignored, since %s is not an absolute path: ~/.local/state is used instead", shown(state));
+    const char *state = variable("XDG_STATE_HOME");
+    if (state && *state != '/') warn("XDG_STATE_HOME is ignored, since %s is not an absolute path: ~/.local/state is used instead", shown(state));
 }
 
 /* Finds the tables and what a replay depends on, which all starts that open FILE need, and starts. */
 static int edit_by(const struct call *call, const struct programs *programs) {
     static struct edit edit;
-    const char *cause = find_tables(&edit.tables, programs->tables);
+    const char *cause = find_tables(&edit.setup.tables, programs->tables);
     if (cause) return refuse(STATUS_FAULT, cause);
-    edit.programs = programs;
-    const char *lacking = find_versions(programs, &edit.tables, edit.versions);
+    edit.setup.programs = programs;
+    const char *lacking = find_versions(programs, &edit.setup.tables, edit.setup.versions);
     int error = errno;
     if (lacking) return refuse(STATUS_FAULT, text_of("the editor needs %s, which cannot be read: %s", shown(lacking), strerror(error)));
     edit.call = call;
-    edit.lost_mode = edit.piped = -1;
-    edit.is_view = call->is_view;
-    edit.is_joined = !call->is_unjoined && edit.tables.joining;
-    session_clear(&edit.session);
+    edit.opened.lost_mode = edit.opened.piped = -1;
+    edit.opened.is_view = call->is_view;
+    edit.kept.is_joined = !call->is_unjoined && edit.setup.tables.joining;
+    session_clear(&edit.kept.session);
     return call->kind == CALL_EDIT ? edit_file(&edit) : edit_recovered(&edit);
 }
 
@@ -277,32 +272,32 @@ static void read_options(struct call *call) {
 }
 
 /* Reads the command line and obeys it. A fault of standard output, which may be a full disk, makes a success a fault. */
-static int obey_words(int count, char **words, const struct programs *programs) {
+static int obey_command_line(int count, char **words, const struct programs *programs) {
     struct call call = {0}, kept = {0};
     const char *cause;
-    int status = read_words(count, words, &call, &cause);
+    int status = read_command_line(count, words, &call, &cause);
     if (status != 0) return refuse(status, cause);
     bool has_options = call.kind == CALL_EDIT || call.kind == CALL_RECOVER || call.kind == CALL_LIST || call.kind == CALL_PRINT;
     if (has_options && !call.has_no_options) {
         read_options(&kept);
-        read_words(count, words, &kept, &cause);
+        read_command_line(count, words, &kept, &cause);
         call = kept;
     }
     status = obey(&call, programs);
     if (status != 0 || output_fault == 0) return status;
-    return refuse(STATUS_FAULT, text_of("standard output cannot be written%s", fault_words(cause_of(output_fault))));
+    return refuse(STATUS_FAULT, text_of("standard output cannot be written%s", fault_text(cause_of(output_fault))));
 }
 
 int main(int count, char **words) {
     static struct programs programs;
     open_standard_files();
     set_first_signals();
-    note_own_word(words[0]);
+    note_own_argument(words[0]);
     if (access("/proc/self/fd", X_OK) != 0)
         return refuse(STATUS_FAULT, "the editor needs /proc, which is not mounted: mount -t proc proc /proc mounts it");
     if (!find_programs(&programs)) return refuse(STATUS_FAULT, "/proc/self/exe cannot be read, so the editor's other programs cannot be found");
     open_terminal();
-    int status = obey_words(count - 1, words + 1, &programs);
+    int status = obey_command_line(count - 1, words + 1, &programs);
     listen_once();
     if (end_signal) die_from(end_signal);
     return status;

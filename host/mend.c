@@ -80,14 +80,14 @@ static bool is_left_by_save(const struct session *session, int file) {
 
 /* Records that FILE is being repaired, since that too may be killed. */
 static void note_repair(const struct session *session, int file) {
-    char words[MOST_WORDS];
+    char words[FACT_MOST];
     struct step step;
     struct timespec today;
     if (!look_at(file, &step) || clock_gettime(CLOCK_REALTIME, &today) != 0) return;
     step.kind = STEP_PARTLY;
     step.to = UINT64_MAX;
     step.seconds = today.tv_sec;
-    words_of_step(&step, words);
+    step_text(&step, words);
     session_put(session, STEP_NAME, words, strlen(words));
 }
 
@@ -140,17 +140,34 @@ static enum mended mend_by(const struct session *session, const struct target *t
     return mended;
 }
 
+/* Repairs the file that the session's saves overwrote before the text got a new name. If it stays torn, its next start has the backup. */
+static void mend_old(struct session *session, const struct sessions *sessions) {
+    struct target old;
+    char path[PATH_MAX], *name;
+    put_path(path, "%s", session->about.path);
+    if (!(name = strrchr(path, '/'))) return;
+    *name++ = '\0';
+    int folder = open_folder(AT_FDCWD, path[0] ? path : "/");
+    target_look(&old, session->about.path, folder, name);
+    if (!is_being_saved(sessions, session, &old) && mend_by(session, &old) == MENDED_STILL_TORN) {
+        char left[PATH_MAX];
+        session_leave_backup(session, sessions, &old, left);
+    }
+    close_one(&folder);
+}
+
 enum cause session_mend(struct session *session, const struct sessions *sessions, const struct target *target, struct mending *mending) {
     int folder = session->folder;
     mending->mended = MENDED_WHOLE;
     session_path_of(session, BACKUP_NAME, mending->backup);
     if (unlinkat(folder, BACKUP_DRAFT_NAME, 0) != 0 && errno != ENOENT) return cause_of(errno);
     if (!session_has(session, BACKUP_NAME)) return CAUSE_NONE;
-    if (saves_into(session, target) && !is_being_saved(sessions, session, target)) mending->mended = mend_by(session, target);
+    if (!saves_into(session, target)) mend_old(session, sessions);
+    else if (!is_being_saved(sessions, session, target)) mending->mended = mend_by(session, target);
     if (mending->mended == MENDED_STILL_TORN) return CAUSE_NONE;
     if (mending->mended == MENDED_NOT) session_path_of(session, SAVED_NAME, mending->backup);
     unlinkat(folder, STEP_NAME, 0);
-    return renameat(folder, BACKUP_NAME, folder, SAVED_NAME) == 0 ? CAUSE_NONE : cause_of(errno);
+    return renameat(folder, BACKUP_NAME, folder, SAVED_NAME) == 0 || errno == ENOENT ? CAUSE_NONE : cause_of(errno);
 }
 
 bool sessions_mend(const struct sessions *sessions, const struct target *target, void (*tell)(void *, const struct mending *), void *context) {

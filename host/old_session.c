@@ -23,8 +23,8 @@ static bool has(int folder, const char *name) {
 }
 
 /* The lines of the versions, which are one line today. */
-static void read_versions(const char *words, char versions[MOST_WORDS]) {
-    snprintf(versions, MOST_WORDS, "%s", words);
+static void read_versions(const char *words, char versions[FACT_MOST]) {
+    snprintf(versions, FACT_MOST, "%s", words);
     for (char *at = versions; *at; at++)
         if (*at == '\n') *at = at[1] ? ' ' : '\0';
 }

@@ -10,9 +10,9 @@
 #include "say.h"
 #include "util.h"
 
-static const char missed[] = "that session was opened or deleted in another window meanwhile";
+static const char missed[] = "that session was opened or deleted in another window in the meantime";
 static const char unsure[] =
-    "that session was recorded by another version of the editor or of Unicode's tables, without its text: its keys may give another text now";
+    "that session was recorded by another version of the editor or of Unicode's tables, without its text: replaying its keys may give different text";
 
 /* Names of new files beside FILE are tried with numbers below this. */
 enum { MOST_NEW_NAMES = 10000 };
@@ -29,7 +29,7 @@ static const char *free_name(int folder, const char *file, const char *ending) {
 /* ---- a session that is to go on */
 
 static int tell_unwritten(const char *path, enum cause cause) {
-    warn("%s cannot be written%s", shown(path), fault_words(cause));
+    warn("%s cannot be written%s", shown(path), fault_text(cause));
     return STATUS_FAULT;
 }
 
@@ -62,9 +62,9 @@ static int keep_parts(struct session *session, const struct file *beside) {
 }
 
 /* Tells that a session cannot go on where it is, and how its text can be had all the same. Returns the exit status. */
-static int tell_unwritable(const struct edit *edit, enum cause cause) {
-    warn("nothing can be written in %s%s. To store the text elsewhere: bidi-edit --recover --to OTHER %s", shown(edit->sessions.path),
-         fault_words(cause), shown(edit->call->file));
+static int tell_unwritable(const struct call *call, const struct opened *opened, enum cause cause) {
+    warn("nothing can be written in %s%s. To store the text elsewhere: bidi-edit --recover --to OTHER %s", shown(opened->sessions.path),
+         fault_text(cause), shown(call->file));
     return STATUS_FAULT;
 }
 
@@ -78,79 +78,79 @@ static void tell_cut(const struct session *session) {
 }
 
 /* Decides which file the recovered text is saved to: FILE, or a new file beside FILE if another program has changed FILE. */
-static int settle_file(struct edit *edit, enum replayed found) {
+static int choose_file(const struct call *call, struct opened *opened, enum replayed found) {
     struct stat look;
-    const char *typed = edit->call->file;
-    if (found != REPLAY_FOREIGN || !edit->file.stamp.is_there) {
+    const char *typed = call->file;
+    if (found != REPLAY_FOREIGN || !opened->file.stamp.is_there) {
         /* the usual opening refuses a FILE whose folder is gone */
-        return edit->file.is_lost ? find_file(edit, typed, false) : check_access(edit);
+        return opened->file.is_lost ? find_file(opened, typed, false) : check_access(call, opened);
     }
-    bool has_mark = edit->file.has_mark;
-    edit->aside_of = typed;
+    bool has_mark = opened->file.has_mark;
+    opened->aside_of = typed;
     const char *beside = free_name(AT_FDCWD, typed, "recovered");
     tell("another program or window has changed %s since; the session's text is recovered as %s", shown(typed), shown(beside));
     bool is_too_long = lstat(beside, &look) != 0 && errno == ENAMETOOLONG;
-    int status = is_too_long ? STATUS_FAULT : find_file(edit, beside, false);
-    edit->file.has_mark = has_mark;
-    if (status == GO_ON) status = check_access(edit);
+    int status = is_too_long ? STATUS_FAULT : find_file(opened, beside, false);
+    opened->file.has_mark = has_mark;
+    if (status == GO_ON) status = check_access(call, opened);
     if (status != GO_ON) warn("to store the text elsewhere: bidi-edit --recover --to OTHER %s", shown(typed));
     return status;
 }
 
 /* Continues a session; `found` says what FILE has. */
 static int go_on_with(struct edit *edit, struct session *session, enum replayed found) {
-    bool is_own = strcmp(session->about.path, edit->file.path) == 0;
-    int status = settle_file(edit, found);
+    bool is_own = strcmp(session->about.path, edit->opened.file.path) == 0;
+    int status = choose_file(edit->call, &edit->opened, found);
     if (status != GO_ON) return status;
-    enum cause cause = session_go_on(session, edit->aside_of ? edit->file.path : NULL, is_own);
-    if (cause) return tell_unwritable(edit, cause);
-    session_move(&edit->session, session);
+    enum cause cause = session_go_on(session, edit->opened.aside_of ? edit->opened.file.path : NULL, is_own);
+    if (cause) return tell_unwritable(edit->call, &edit->opened, cause);
+    session_move(&edit->kept.session, session);
     return TAKEN;
 }
 
 /* Removes a session of which FILE has all, and has FILE opened. */
-static int end_where_same(const struct edit *edit, struct session *session) {
-    tell("%s already contains everything that was typed in its last session", shown(edit->file.typed));
+static int end_where_same(const struct opened *opened, struct session *session) {
+    tell("%s already contains everything that was typed in its last session", shown(opened->file.typed));
     session_remove(session);
     return ASKED;
 }
 
 /* Asks about a session whose keys cannot be replayed. After an answer FILE is opened. */
-static int ask_what_to_keep(const struct edit *edit, struct session *session) {
-    tell("the session of %s in %s could not be replayed", shown(edit->file.typed), shown(session->path));
+static int ask_what_to_keep(const struct opened *opened, struct session *session) {
+    tell("the session of %s in %s could not be replayed", shown(opened->file.typed), shown(session->path));
     enum rest rest = ask_rest();
-    int status = rest == REST_NONE ? STATUS_NO : rest == REST_KEEP ? keep_parts(session, &edit->file) : GO_ON;
+    int status = rest == REST_NONE ? STATUS_NO : rest == REST_KEEP ? keep_parts(session, &opened->file) : GO_ON;
     return status == GO_ON ? ASKED : status;
 }
 
-static int tell_failed_replay(const struct edit *edit, const struct session *session) {
-    warn("the session of %s in %s could not be replayed, and is left as it is", shown(edit->file.typed), shown(session->path));
+static int tell_failed_replay(const struct opened *opened, const struct session *session) {
+    warn("the session of %s in %s could not be replayed, and is left as it is", shown(opened->file.typed), shown(session->path));
     return STATUS_FAULT;
 }
 
 /* Recovers a session by replaying its keys over its text. What FILE has by the replay decides how it goes on. */
 static int take_by_keys(struct edit *edit, struct session *session) {
     int text;
-    enum replayed found = replay(edit, session, &text, 0);
+    enum replayed found = replay(&edit->setup, &edit->opened, session, &text, 0);
     close_one(&text);
-    if (found == REPLAY_UNREADABLE) return ask_what_to_keep(edit, session);
-    if (found == REPLAY_FAILED) return tell_failed_replay(edit, session);
+    if (found == REPLAY_UNREADABLE) return ask_what_to_keep(&edit->opened, session);
+    if (found == REPLAY_FAILED) return tell_failed_replay(&edit->opened, session);
     tell_cut(session);
-    return found == REPLAY_SAME ? end_where_same(edit, session) : go_on_with(edit, session, found);
+    return found == REPLAY_SAME ? end_where_same(&edit->opened, session) : go_on_with(edit, session, found);
 }
 
 /* Makes a new session from the text that a session left at its end, and removes the old session. */
 static int take_by_text(struct edit *edit, struct session *session) {
     struct session renewed;
     struct sum known;
-    enum replayed found = compare_text(&edit->file, session);
-    if (found == REPLAY_SAME) return end_where_same(edit, session);
+    enum replayed found = compare_text(&edit->opened.file, session);
+    if (found == REPLAY_SAME) return end_where_same(&edit->opened, session);
     tell("that session was recorded by another version of the editor or of Unicode's tables: its text is recovered, but not its undo history");
     sum_begin(&known);
-    bool is_known = found == REPLAY_KNOWN && (edit->file.text < 0 || sum_file(edit->file.text, &known));
+    bool is_known = found == REPLAY_KNOWN && (edit->opened.file.text < 0 || sum_file(edit->opened.file.text, &known));
     session_clear(&renewed);
-    enum cause cause = session_renew(&renewed, &edit->sessions, session, edit->versions, is_known ? &known : NULL);
-    if (cause) return tell_unwritable(edit, cause);
+    enum cause cause = session_renew(&renewed, &edit->opened.sessions, session, edit->setup.versions, is_known ? &known : NULL);
+    if (cause) return tell_unwritable(edit->call, &edit->opened, cause);
     /* if the old one cannot be removed, the next start asks about it */
     session_remove(session);
     int status = go_on_with(edit, &renewed, found);
@@ -162,13 +162,13 @@ static int take_by_text(struct edit *edit, struct session *session) {
  * and editor and tables are the same. */
 static int take_locked(struct edit *edit, struct session *session) {
     struct mending mending;
-    bool is_mended = session_mend(session, &edit->sessions, &edit->target, &mending) == CAUSE_NONE;
-    if (is_mended && tell_mended(edit, &mending, tell)) return STATUS_FAULT;
+    bool is_mended = session_mend(session, &edit->opened.sessions, &edit->opened.target, &mending) == CAUSE_NONE;
+    if (is_mended && tell_mended(shown(edit->opened.file.typed), &mending, tell)) return STATUS_FAULT;
     /* FILE as it is now, after the question */
-    int status = find_file(edit, edit->call->file, true);
+    int status = find_file(&edit->opened, edit->call->file, true);
     if (status != GO_ON) return status;
     const char *damage = session_damage(session);
-    bool is_same_version = strcmp(session->about.versions, edit->versions) == 0;
+    bool is_same_version = strcmp(session->about.versions, edit->setup.versions) == 0;
     if (!damage && is_same_version) return take_by_keys(edit, session);
     if (!damage && session_has(session, SNAPSHOT_NAME)) return take_by_text(edit, session);
     if (damage) tell_damage(session, damage);
@@ -180,7 +180,7 @@ static int take_locked(struct edit *edit, struct session *session) {
 static int take_over(struct edit *edit, struct session *session) {
     switch (session_lock(session)) {
     case LOCK_TAKEN: return take_locked(edit, session);
-    case LOCK_FAILED: return tell_unwritable(edit, session->cause);
+    case LOCK_FAILED: return tell_unwritable(edit->call, &edit->opened, session->cause);
     default: tell("%s", missed); return AGAIN;
     }
 }
@@ -193,11 +193,11 @@ static const char *number_text(const struct session *session) {
 
 /* If another process of the user's has FILE open, or may have it open where that cannot be checked from here, asks whether to go on. Returns
  * GO_ON if none has, else ASKED or the exit status. */
-static int ask_beside(struct edit *edit, const struct found *found) {
+static int ask_beside(const struct call *call, struct opened *opened, const struct found *found) {
     static const char overwrites[] = "Each window may overwrite what the other saves.";
-    if (is_nameless(edit)) return GO_ON;
-    const char *file = shown(edit->call->file);
-    pid_t other = edit->file.is_lost ? 0 : note_open_file(&edit->file);
+    if (is_nameless(opened)) return GO_ON;
+    const char *file = shown(call->file);
+    pid_t other = opened->file.is_lost ? 0 : note_open_file(&opened->file);
     bool is_live = !session_is_none(&found->live);
     const struct session *session = is_live ? &found->live : &found->elsewhere;
     bool is_session = is_live || (other == 0 && !session_is_none(session));
@@ -210,28 +210,28 @@ static int ask_beside(struct edit *edit, const struct found *found) {
         tell("%s may be open in another window of yours (process %s on %s, which cannot be checked from here). %s", file, number,
              machine ? machine : THIS_MACHINE, overwrites);
     enum beside beside = ask_what_beside();
-    if (beside == BESIDE_VIEW) edit->is_view = true;
+    if (beside == BESIDE_VIEW) opened->is_view = true;
     return beside == BESIDE_NO ? STATUS_NO : ASKED;
 }
 
 /* Deletes a session for good. If that fails, the question comes again. */
-static int delete_session(const struct edit *edit, struct session *session) {
+static int delete_session(const struct opened *opened, struct session *session) {
     enum lock_result lock = session_lock(session);
     enum cause cause = lock == LOCK_TAKEN ? session_remove(session) : session->cause;
     if (lock == LOCK_TAKEN && !cause) return ASKED;
     if (lock == LOCK_HELD || lock == LOCK_GONE) tell("%s", missed);
-    else warn("the session of %s in %s cannot be deleted%s", shown(edit->file.typed), shown(session->path), fault_words(cause));
+    else warn("the session of %s in %s cannot be deleted%s", shown(opened->file.typed), shown(session->path), fault_text(cause));
     return AGAIN;
 }
 
 /* Asks about an unfinished session, and does what the user chooses. */
 static int ask_what_to_do(struct edit *edit, struct session *session) {
-    const char *file = is_nameless(edit) ? "a text without a name" : shown(edit->file.typed);
+    const char *file = is_nameless(&edit->opened) ? "a text without a name" : shown(edit->opened.file.typed);
     tell("%s has an unfinished session from %s (keys typed: %zu)", file, time_text(session), session_count_keys(session));
     switch (ask_choice()) {
     case CHOICE_RECOVER: return take_over(edit, session);
     case CHOICE_LATER: return ASKED;
-    case CHOICE_DELETE: return delete_session(edit, session);
+    case CHOICE_DELETE: return delete_session(&edit->opened, session);
     default: return STATUS_NO;
     }
 }
@@ -240,8 +240,8 @@ int meet_sessions(struct edit *edit) {
     for (;;) {
         struct found found;
         /* a folder that cannot be read has no session that could be recovered */
-        if (sessions_of(&found, &edit->sessions, &edit->target)) return GO_ON;
-        int status = ask_beside(edit, &found);
+        if (sessions_of(&found, &edit->opened.sessions, &edit->opened.target)) return GO_ON;
+        int status = ask_beside(edit->call, &edit->opened, &found);
         if (status < 0 && !session_is_none(&found.unfinished)) status = ask_what_to_do(edit, &found.unfinished);
         found_close(&found);
         if (status != AGAIN) return status;
@@ -251,9 +251,9 @@ int meet_sessions(struct edit *edit) {
 /* ---- --recover FILE, --recover --to OTHER FILE */
 
 /* Picks a session: an unfinished one, else one whose changes were dropped, else one of another machine. Tells if there is none. */
-static struct session *pick(const struct edit *edit, struct found *found) {
+static struct session *pick(const struct opened *opened, struct found *found) {
     enum notice notice;
-    const char *file = shown(edit->file.typed), *unkept = unkept_by(&edit->sessions, &notice);
+    const char *file = shown(opened->file.typed), *unkept = unkept_by(&opened->sessions, &notice);
     if (!session_is_none(&found->unfinished)) return &found->unfinished;
     if (!session_is_none(&found->dropped)) return &found->dropped;
     if (!session_is_none(&found->elsewhere)) return &found->elsewhere;
@@ -263,40 +263,40 @@ static struct session *pick(const struct edit *edit, struct found *found) {
 }
 
 /* Asks whether a process of another machine has ended, which no lock can tell from here. */
-static bool ask_of_elsewhere(const struct edit *edit, const struct session *session) {
+static bool ask_of_elsewhere(const struct opened *opened, const struct session *session) {
     const char *machine = machine_text(session);
     tell("the session of %s began on %s (process %s), which cannot be checked from here. Recover it only if that process has ended.",
-         shown(edit->file.typed), machine ? machine : THIS_MACHINE, number_text(session));
+         shown(opened->file.typed), machine ? machine : THIS_MACHINE, number_text(session));
     return ask_to_go_on("Has it ended");
 }
 
 /* Finds FILE's sessions; returns GO_ON or the exit status. */
-static int find_sessions(struct edit *edit, struct found *found) {
-    enum cause cause = sessions_of(found, &edit->sessions, &edit->target);
-    if (cause) warn("%s cannot be read: %s", shown(edit->sessions.path), cause_text(cause));
+static int find_sessions(const struct opened *opened, struct found *found) {
+    enum cause cause = sessions_of(found, &opened->sessions, &opened->target);
+    if (cause) warn("%s cannot be read: %s", shown(opened->sessions.path), cause_text(cause));
     return cause ? STATUS_FAULT : GO_ON;
 }
 
 /* Picks a session and takes it over, after the questions that only the user can answer. */
 static int recover_found(struct edit *edit, struct found *found) {
-    struct session *session = pick(edit, found);
+    struct session *session = pick(&edit->opened, found);
     if (!session) return STATUS_FAULT;
-    bool may_go_on = session == &found->elsewhere ? ask_of_elsewhere(edit, session) : ask_beside(edit, found) < 0;
+    bool may_go_on = session == &found->elsewhere ? ask_of_elsewhere(&edit->opened, session) : ask_beside(edit->call, &edit->opened, found) < 0;
     return may_go_on ? take_over(edit, session) : STATUS_NO;
 }
 
 int recover_session(struct edit *edit) {
     struct found found;
-    int status = find_file(edit, edit->call->file, true);
-    if (status == GO_ON && edit->file.other) {
-        const char *why = file_message(&edit->file, edit->file.other, 0);
-        warn("%s; to store the text of a session: bidi-edit --recover --to OTHER %s", why, shown(edit->file.typed));
+    int status = find_file(&edit->opened, edit->call->file, true);
+    if (status == GO_ON && edit->opened.file.other) {
+        const char *why = file_message(&edit->opened.file, edit->opened.file.other, 0);
+        warn("%s; to store the text of a session: bidi-edit --recover --to OTHER %s", why, shown(edit->opened.file.typed));
         return STATUS_FAULT;
     }
-    if (status == GO_ON && !mend_file(edit)) status = STATUS_FAULT;
+    if (status == GO_ON && !mend_file(&edit->opened)) status = STATUS_FAULT;
     if (status != GO_ON) return status;
     do {
-        status = find_sessions(edit, &found);
+        status = find_sessions(&edit->opened, &found);
         if (status != GO_ON) return status;
         status = recover_found(edit, &found);
         found_close(&found);
@@ -306,39 +306,39 @@ int recover_session(struct edit *edit) {
 
 /* The text of a session as an open file: by a replay of its keys, or, if another version recorded it, as it was at its end. -1 if there is
  * none, which is reported. */
-static int text_to_store(struct edit *edit, const struct session *session) {
+static int text_to_store(const struct setup *setup, const struct opened *opened, const struct session *session) {
     int text = -1;
-    if (strcmp(session->about.versions, edit->versions) != 0) {
+    if (strcmp(session->about.versions, setup->versions) != 0) {
         text = session_open(session, SNAPSHOT_NAME);
         if (text >= 0) return text;
         tell("%s", unsure);
     }
-    enum replayed found = replay(edit, session, &text, 0);
-    if (found == REPLAY_UNREADABLE || found == REPLAY_FAILED) tell_failed_replay(edit, session);
+    enum replayed found = replay(setup, opened, session, &text, 0);
+    if (found == REPLAY_UNREADABLE || found == REPLAY_FAILED) tell_failed_replay(opened, session);
     else tell_cut(session);
     return text;
 }
 
 /* Writes a session's text to a new file, never over one that exists. Returns the exit status. */
-static int store(struct edit *edit, const struct session *session) {
-    const char *other = edit->call->other, *damage = session_damage(session);
-    int text = text_to_store(edit, session);
+static int store(const struct setup *setup, const struct opened *opened, const struct session *session, const char *other) {
+    const char *damage = session_damage(session);
+    int text = text_to_store(setup, opened, session);
     if (text < 0) return STATUS_FAULT;
     /* what a save would write */
-    enum cause cause = edit->file.has_mark && !put_mark(&text) ? CAUSE_OUT_OF_MEMORY : CAUSE_NONE;
+    enum cause cause = opened->file.has_mark && !put_mark(&text) ? CAUSE_OUT_OF_MEMORY : CAUSE_NONE;
     if (!cause) cause = make_file(AT_FDCWD, other, text, session->about.mode >= 0 ? (mode_t)session->about.mode : 0600);
     close(text);
     if (cause) return tell_unwritten(other, cause);
-    tell("the text of %s, with what was typed in the session (keys: %zu), is now in %s", shown(edit->file.typed), session_count_keys(session), shown(other));
+    tell("the text of %s, with what was typed in the session (keys: %zu), is now in %s", shown(opened->file.typed), session_count_keys(session), shown(other));
     if (damage) tell_damage(session, damage);
     return damage ? STATUS_FAULT : 0;
 }
 
 /* Why a session cannot be stored: one of another machine, of which only --recover FILE asks whether it has ended; a file that exists; a
  * session that another window has. NULL if it can be; then it is locked, unless its disk is read-only, where no editor can run either. */
-static const char *lock_to_store(const struct edit *edit, struct session *session, bool is_elsewhere) {
+static const char *lock_to_store(const struct call *call, const struct opened *opened, struct session *session, bool is_elsewhere) {
     struct stat look;
-    const char *file = shown(edit->file.typed), *other = edit->call->other;
+    const char *file = shown(opened->file.typed), *other = call->other;
     if (is_elsewhere) return text_of("the session of %s began on another machine: bidi-edit --recover %s asks whether it has ended", file, file);
     if (lstat(other, &look) == 0) return text_of("%s already exists: name a new file", shown(other));
     enum lock_result lock = session_lock(session);
@@ -352,17 +352,17 @@ static const char *lock_to_store(const struct edit *edit, struct session *sessio
 
 int store_session(struct edit *edit) {
     struct found found;
-    int status = find_file(edit, edit->call->file, true);
+    int status = find_file(&edit->opened, edit->call->file, true);
     if (status != GO_ON) return status;
     /* the text can be stored elsewhere even if FILE cannot be repaired */
-    mend_file(edit);
-    if (!edit->file.typed) return STATUS_FAULT;
-    status = find_sessions(edit, &found);
+    mend_file(&edit->opened);
+    if (!edit->opened.file.typed) return STATUS_FAULT;
+    status = find_sessions(&edit->opened, &found);
     if (status != GO_ON) return status;
-    struct session *session = pick(edit, &found);
-    const char *why = session ? lock_to_store(edit, session, session == &found.elsewhere) : NULL;
+    struct session *session = pick(&edit->opened, &found);
+    const char *why = session ? lock_to_store(edit->call, &edit->opened, session, session == &found.elsewhere) : NULL;
     if (why) warn("%s", why);
-    status = session && !why ? store(edit, session) : STATUS_FAULT;
+    status = session && !why ? store(&edit->setup, &edit->opened, session, edit->call->other) : STATUS_FAULT;
     found_close(&found);
     return status;
 }

@@ -45,7 +45,7 @@ static struct {
     struct pipes pipes;
     pid_t program, saver;
     int program_status;
-    struct word_reader reader;
+    struct frame_reader reader;
     /* How many bytes the program was given, and how many of them it has read. */
     size_t given, taken;
     /* The program is to be told the window's size; the terminal has hung up; what did not end in time was killed; bytes were typed
@@ -89,8 +89,8 @@ static size_t unread(void) {
 }
 
 /* Reads the program's frames, and closes the pipe at its end. */
-static void hear_words(struct run *run) {
-    if (live.pipes.words >= 0 && !read_words_of(run, &live.reader, live.pipes.words)) close_one(&live.pipes.words);
+static void hear_frames(struct run *run) {
+    if (live.pipes.frames >= 0 && !read_frames_of(run, &live.reader, live.pipes.frames)) close_one(&live.pipes.frames);
 }
 
 /* Closes the program's input, which asks it to end. From then on no size is owed to it, and no pause. */
@@ -138,7 +138,7 @@ static void mind_owed(void) {
 
 /* What the program waits for that does not answer. */
 static const char *cause_of_waiting(void) {
-    if (live.saver > 0) return "still saving: the disk does not answer (^C gives the save up)";
+    if (live.saver > 0) return "still saving: the disk does not respond (^C gives up the save)";
     return strchr("SD", process_state(live.program)) ? "waiting for the disk that keeps unsaved text" : "the editor is at work";
 }
 
@@ -219,7 +219,7 @@ static void mind_dropped(struct run *run) {
 static bool takes_ctrl_c(struct run *run, const unsigned char *bytes, size_t length) {
     if (!memchr(bytes, CTRL_C, length)) return false;
     /* it may have opened FILE just now */
-    if (!run->said.is_opened) hear_words(run);
+    if (!run->said.is_opened) hear_frames(run);
     if (!run->said.is_opened) note_end(SIGINT);
     if (!live.is_late || live.saver <= 0 || end_signal) return false;
     kill(live.saver, SIGKILL);
@@ -288,17 +288,17 @@ static void mind_stop(void) {
 
 /* Waits until something can be read or written, or until the time `end`, and does it. */
 static void wait_once(struct run *run, int64_t end) {
-    enum { WORDS, REQUESTS, KEYS, LINE, FILES };
+    enum { FRAMES, REQUESTS, KEYS, LINE, FILES };
     bool is_saving = !run->saver || live.saver > 0, is_read = takes_typing();
     /* poll passes over a file of -1 */
     struct pollfd files[FILES] = {
-        [WORDS] = {.fd = live.pipes.words, .events = POLLIN},
+        [FRAMES] = {.fd = live.pipes.frames, .events = POLLIN},
         [REQUESTS] = {.fd = is_saving ? -1 : live.pipes.requests, .events = POLLIN},
         [KEYS] = {.fd = is_read || has_room() ? -1 : live.pipes.keys, .events = POLLOUT},
         [LINE] = {.fd = is_read || is_showing() ? terminal_line : -1, .events = (short)((is_read ? POLLIN : 0) | (is_showing() ? POLLOUT : 0))},
     };
     if (wait_for(files, FILES, end) <= 0) return;
-    if (files[WORDS].revents) hear_words(run);
+    if (files[FRAMES].revents) hear_frames(run);
     if (files[REQUESTS].revents) mind_request(run);
     if (files[LINE].revents && is_showing()) go_on_showing();
     if (files[LINE].revents & ~POLLOUT && takes_typing()) read_typing(run);
@@ -352,20 +352,20 @@ static void go_on(struct run *run) {
 
 /* Prepares what the watcher and the program need, changes the terminal, and starts the program. Returns NULL, or the cause if that fails. */
 static const char *start(struct run *run, struct pipes *ends) {
-    struct words words = {.count = 0};
+    struct arguments arguments = {.count = 0};
     struct size size, first;
     if (!note_settings()) return "the terminal's settings cannot be read";
     prepare_screen(run->title, run->has_mouse);
     if (!open_pipes(&live.pipes, ends)) return "no pipe can be created";
     measure(&size);
-    make_words(&words, run, ends, run->rows > 0 ? run->rows : size.rows, run->rows > 0 ? run->columns : size.columns);
+    make_arguments(&arguments, run, ends, run->rows > 0 ? run->rows : size.rows, run->rows > 0 ? run->columns : size.columns);
     /* what it reads behind its first painting tells that it has painted */
     if (run->hint) give_notice(NOTICE_NONE);
-    if (!start_watcher(live.pipes.words, run->held, run->killed)) return "no process can be created";
+    if (!start_watcher(live.pipes.frames, run->held, run->killed)) return "no process can be created";
     watched->is_changed = true;
     if (!begin_screen()) return "the terminal's settings cannot be changed";
     listen_once();
-    pid_t program = end_signal ? -1 : start_program(run, ends, &words);
+    pid_t program = end_signal ? -1 : start_program(run, ends, &arguments);
     if (program < 0) return "no process can be created";
     live.program = watched->program = program;
     live.second = now() + SECOND_MS;
@@ -378,8 +378,8 @@ static const char *start(struct run *run, struct pipes *ends) {
 /* Restores the terminal, and takes in what the program said last. */
 static void restore(struct run *run) {
     close_input();
-    hear_words(run);
-    end_words(&live.reader);
+    hear_frames(run);
+    end_frames(&live.reader);
     /* if the host was told to end while it was stopped, it has restored the terminal already */
     if (!watched || !watched->is_changed) return;
     drain_paste(&watched->paste, within(PASTE_MS));

@@ -8,7 +8,7 @@
 #include <sys/types.h>
 
 #include "frames.h"
-#include "words.h"
+#include "command_line.h"
 
 struct saver;
 
@@ -17,9 +17,9 @@ enum { MOST_HANDED = 16 };
 
 /* What a program said. */
 struct said {
-    enum end_word end;
+    enum end_frame end;
     /* The last fault, as KIND or KIND VALUE, and the last answer to --replay, as WORD KEYS; empty if there was none. */
-    char fault[WORD_MOST + 1], replayed[WORD_MOST + 1];
+    char fault[FRAME_TEXT_MOST + 1], replayed[FRAME_TEXT_MOST + 1];
     /* FILE was read and can be opened. */
     bool is_opened;
 };
@@ -28,7 +28,7 @@ struct run {
     /* The caller sets all fields down to `on_saved`. The program's path, and its arguments without those that run_program adds (--frames,
      * --saves, --before, --rows, --cols, --erase, --clipboard). The last argument is FILE, and NULL ends them. */
     const char *program;
-    char *const *words;
+    char *const *arguments;
     /* The window's title; a message for the last row until a key is pressed; FILE's name, or none, as
      * a word behind `--recover` for what is said if the host is killed. The latter two may be NULL. */
     const char *title, *hint, *killed;
@@ -83,31 +83,34 @@ bool was_typed(void);
 void show_title(const char *title);
 void ring(void);
 
-/* Runs the program without terminal and input, as for --replay with --to. `words` are its path and arguments, ended by NULL; `run` gives
+/* Runs the program without terminal and input, as for --replay with --to. `arguments` begin with its path, and NULL ends them; `run` gives
  * the inherited descriptors and the mask. After `limit` milliseconds, if that is not 0, it is killed. Returns the status as in a
  * shell, or -1 if it could not be started or was killed for being late. run->said has what it said. */
-int run_aside(struct run *run, char *const *words, int64_t limit);
+int run_aside(struct run *run, char *const *arguments, int64_t limit);
 
 /* ---- the program as a child of the host, for run.c (program.c) */
 
-/* The host's ends of the pipes, or the program's; -1 once closed. The host writes to `keys` and reads frames from `words`, which do not
+/* The host's ends of the pipes, or the program's; -1 once closed. The host writes to `keys` and reads from `frames`, which do not
  * block for it. Its other two ends are for the children that serve saves. */
 struct pipes {
-    int keys, words, requests, answers;
+    int keys, frames, requests, answers;
 };
 bool open_pipes(struct pipes *pipes, struct pipes *ends);
 void close_pipes(struct pipes *pipes);
 
+/* The path by which the program opens what the host has open. */
+const char *handed_path(struct run *run, int file);
+
 /* Puts the program's arguments together, for this size of the window. The host's own come first, since FILE has to be the last one. */
-void make_words(struct words *words, const struct run *run, const struct pipes *ends, unsigned rows, unsigned columns);
+void make_arguments(struct arguments *arguments, const struct run *run, const struct pipes *ends, unsigned rows, unsigned columns);
 
 /* Starts the program. Returns its process, or -1. */
-pid_t start_program(const struct run *run, const struct pipes *ends, const struct words *words);
+pid_t start_program(const struct run *run, const struct pipes *ends, const struct arguments *arguments);
 
 /* Reads the program's frames that have arrived. Returns false at the end of the pipe. */
-bool read_words_of(struct run *run, struct word_reader *reader, int words);
+bool read_frames_of(struct run *run, struct frame_reader *reader, int frames);
 
 /* Writes out what the program said outside frames, with ? in place of control characters. */
-void tell_foreign(const struct word_reader *reader);
+void tell_foreign(const struct frame_reader *reader);
 
 #endif

@@ -20,22 +20,6 @@
 
 /* ---- FILE and its folder, as they are now */
 
-/* Takes this change for what was seen last. Only a plain file is also noted as the one whose owner and mode a new file gets. */
-static void note(struct save *save, const struct file_stamp *now, int itself) {
-    save->state.seen = *now;
-    save->state.is_told = true;
-    if (!now->is_there || !S_ISREG(now->found.st_mode)) return;
-    save->state.old = *now;
-    save->state.is_old_plain = has_access_list(itself) == NO;
-}
-
-void save_note(struct save *save) {
-    struct file_stamp now;
-    int itself;
-    if (stamp_and_open(save->folder, save->file->name, &now, &itself)) note(save, &now, itself);
-    close_one(&itself);
-}
-
 /* Looks at FILE's name, and opens what is there. Fails if the save must not go on. */
 static enum cause look(struct save *save, int *itself) {
     struct file_stamp now;
@@ -43,7 +27,7 @@ static enum cause look(struct save *save, int *itself) {
     enum cause cause = judge_stamp(&save->state.seen, &now);
     if (cause == CAUSE_NONE && now.is_there && save->state.is_told && !save->is_over) cause = CAUSE_CHANGED;
     save->is_there = cause == CAUSE_NONE && now.is_there;
-    if (cause == CAUSE_CHANGED) note(save, &now, *itself);
+    if (cause == CAUSE_CHANGED) note_file(save, &now, *itself);
     return cause;
 }
 
@@ -149,6 +133,7 @@ static enum cause open_named(struct save *save) {
     state->has_new_file = true;
     made->file.has_mark = save->file->has_mark;
     snprintf(made->raw, sizeof made->raw, "%s", save->raw_name);
+    snprintf(made->torn, sizeof made->torn, "%s", state->is_torn ? state->torn : "");
     snprintf(made->typed, sizeof made->typed, "%s", save->new_name);
     snprintf(made->shown, sizeof made->shown, "%s", shown(save->new_name));
     snprintf(made->shown_name, sizeof made->shown_name, "%s", shown(made->file.name));
@@ -194,21 +179,8 @@ static void take_name(struct save *save, const unsigned char *bytes, size_t leng
 /* Bytes of two of the longest frames; the first room for a text. */
 enum { ROOM = 2 * (FRAME_HEAD + FRAME_MOST), FIRST_ROOM = 1 << 20 };
 
-/* The child writes a state to the slot that is not current, and then makes that slot the current one. */
-struct saved {
-    struct state slots[2];
-    atomic_uint current;
-};
-
 static struct state *current(const struct saver *saver) {
     return &saver->saved->slots[atomic_load(&saver->saved->current) & 1];
-}
-
-void save_publish(const struct save *save) {
-    struct saved *saved = save->saver->saved;
-    unsigned next = (atomic_load(&saved->current) + 1) & 1;
-    saved->slots[next] = save->state;
-    atomic_store(&saved->current, next);
 }
 
 /* Notes in the journal that the program asks whether to overwrite what another program wrote: a recovery takes the next key for the answer then,
@@ -235,7 +207,6 @@ static _Noreturn void end(struct save *save, enum cause cause) {
     _exit(0);
 }
 
-/* Adds bytes to the text. */
 static void add(struct save *save, const unsigned char *bytes, size_t length) {
     if (length == 0 || save->is_cut) return;
     if (save->length + length > save->room) {
@@ -254,6 +225,9 @@ static void add(struct save *save, const unsigned char *bytes, size_t length) {
 static bool obey_frame(struct save *save, const struct frame *frame, int answer) {
     switch (frame->letter) {
     case FRAME_BEGIN:
+        /* a save that was begun before, and not committed, is forgotten */
+        save->length = 0;
+        save->new_name[0] = 0;
         save->is_cut = false;
         save->is_over = frame->length > 0 && frame->bytes[0] == BEGIN_OVER;
         if (frame->length > 0 && frame->bytes[0] == BEGIN_AS) take_name(save, frame->bytes + 1, frame->length - 1);

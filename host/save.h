@@ -15,6 +15,8 @@ struct saved;
  * how messages show that and its last part. */
 struct new_file {
     struct file file;
+    /* The backup beside the file that was FILE before, if that stays torn; else empty. */
+    char torn[NAME_MAX + 1];
     char raw[PATH_MAX], typed[PATH_MAX], shown[4 * PATH_MAX], shown_name[4 * PATH_MAX];
 };
 

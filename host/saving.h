@@ -3,6 +3,7 @@
 #define SAVING_H
 
 #include <limits.h>
+#include <stdatomic.h>
 #include <stdbool.h>
 #include <stddef.h>
 #include <sys/stat.h>
@@ -64,15 +65,21 @@ struct save {
     char new_name[PATH_MAX], raw_name[PATH_MAX];
 };
 
-/* ---- save.c */
-
-/* Takes what is at FILE's name for what was seen last. */
-void save_note(struct save *save);
-
-/* Shows the state to the host, which knows it even if this process is killed. */
-void save_publish(const struct save *save);
+/* The states of the saver and of its host, in memory that both have: the saver writes to the slot that is not current, and then makes it the
+ * current one. So the host knows the last state even if the saver is killed. */
+struct saved {
+    struct state slots[2];
+    atomic_uint current;
+};
 
 /* ---- draft.c */
+
+/* Takes what is at FILE's name, as it was looked at, for what was seen last. Only a plain file is also noted as the one whose owner and mode a
+ * new file gets. */
+void note_file(struct save *save, const struct file_stamp *now, int itself);
+
+/* Shows the state to the host. */
+void save_publish(const struct save *save);
 
 /* Writes the text to a draft, which nobody else can read, and syncs it. A draft that is to replace FILE gets FILE's owner and mode. */
 enum cause write_draft(struct save *save);

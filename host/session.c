@@ -7,7 +7,6 @@
 #include <stdlib.h>
 #include <string.h>
 #include <sys/file.h>
-#include <sys/utsname.h>
 #include <unistd.h>
 
 #include "file.h"
@@ -41,46 +40,6 @@ void session_move(struct session *to, struct session *from) {
     session_close(to);
     *to = *from;
     session_clear(from);
-}
-
-/* ---- this process, the clock */
-
-/* Reads the first word of a file. On failure `word` stays as it is. */
-static void read_word(const char *path, char *word, size_t room) {
-    char *line = read_short(AT_FDCWD, path, NULL);
-    if (!line) return;
-    line[strcspn(line, " \t\r\n")] = '\0';
-    if (line[0]) snprintf(word, room, "%s", line);
-}
-
-const struct process *this_process(void) {
-    static struct process process;
-    struct utsname system;
-    if (!process.machine[0]) {
-        snprintf(process.machine, sizeof process.machine, "%s", uname(&system) == 0 && system.nodename[0] ? system.nodename : "localhost");
-        read_word("/proc/sys/kernel/random/boot_id", process.boot, sizeof process.boot);
-    }
-    process.number = (unsigned)getpid();
-    return &process;
-}
-
-void time_words(const struct timespec *time, char words[32]) {
-    struct tm parts;
-    words[0] = '\0';
-    if (localtime_r(&time->tv_sec, &parts)) strftime(words, 32, "%Y-%m-%d %H:%M", &parts);
-}
-
-const char *versions_look(const char *version, const char *const *files, size_t count, char words[MOST_WORDS]) {
-    struct stat found;
-    size_t length = (size_t)snprintf(words, MOST_WORDS, "bidi-edit %s", version);
-    for (size_t at = 0; at < count; at++) {
-        if (stat(files[at], &found) != 0) return files[at];
-        length += (size_t)snprintf(words + length, MOST_WORDS - length, " %lld %lld %lld", (long long)found.st_size,
-                                   (long long)found.st_mtim.tv_sec, (long long)found.st_mtim.tv_nsec);
-        errno = ENAMETOOLONG;
-        if (length >= MOST_WORDS) return files[at];
-    }
-    return NULL;
 }
 
 /* ---- what is written in the session's folder */
@@ -124,10 +83,6 @@ static int put_about(struct session *session) {
     return 0;
 }
 
-bool session_has_mark(const struct session *session, enum mark mark) {
-    return session->about.marks & mark;
-}
-
 enum cause session_mark(struct session *session, enum mark mark) {
     session->about.marks |= mark;
     return cause_of(put_about(session));
@@ -155,7 +110,6 @@ static void read_about(struct session *session) {
     if (bytes) put_path(session->about.new_path, "%s", bytes);
 }
 
-/* Opens the folder of this name. */
 static bool open_at(struct session *session, const struct sessions *sessions, const char *name) {
     session_clear(session);
     if (!put_path(session->path, "%s/%s", sessions->path, name)) return false;
@@ -221,32 +175,18 @@ enum lock_result session_lock(struct session *session) {
 
 /* ---- the copy of FILE's text */
 
-/* A text that is copied and summed up. */
-struct copy {
-    int to, error;
-    struct sum sum;
-};
-
-static void take_piece(void *context, const char *bytes, size_t size) {
-    struct copy *copy = context;
-    if (!copy->error) copy->error = write_bytes(copy->to, bytes, size);
-    sum_more(&copy->sum, bytes, size);
-}
-
 /* Whether a file was written a moment ago, so that it may change while it is read. */
 static bool is_being_written(const struct stat *look) {
     struct timespec today;
     return clock_gettime(CLOCK_REALTIME, &today) == 0 && today.tv_sec - look->st_mtim.tv_sec <= CALM;
 }
 
-/* Copies an open file over the session's text. A text without space gives up what it took. */
+/* Copies an open file over the session's text, and sums it up. A text without space gives up what it took. */
 static int copy_text(struct session *session, int file) {
-    struct copy copy = {.to = session->text};
-    sum_begin(&copy.sum);
-    int error = lseek(session->text, 0, SEEK_SET) == 0 ? read_pieces(file, 0, take_piece, &copy) : errno;
-    if (!error) error = copy.error;
+    int error = lseek(session->text, 0, SEEK_SET) == 0 ? copy_file(file, 0, session->text) : errno;
+    sum_begin(&session->about.text);
+    if (!error) error = sum_rest(session->text, &session->about.text);
     session->about.has_text = error == 0;
-    session->about.text = copy.sum;
     session->is_text_due = session->is_about_due = true;
     if (error && ftruncate(session->text, 0) != 0) return error;
     return error;
@@ -330,11 +270,34 @@ enum cause session_renew(struct session *renewed, const struct sessions *session
     sum_begin(&about.journal);
     enum cause cause = session_begin(renewed, sessions, &about, snapshot);
     close(snapshot);
-    if (!cause && !session_settle(renewed, false)) cause = renewed->cause ? renewed->cause : CAUSE_OTHER;
+    if (!cause && !session_complete(renewed, false)) cause = renewed->cause ? renewed->cause : CAUSE_OTHER;
     if (cause && !session_is_none(renewed)) {
         session_remove(renewed);
         session_close(renewed);
     }
+    return cause;
+}
+
+enum cause session_leave_backup(struct session *session, const struct sessions *sessions, const struct target *target, char path[PATH_MAX]) {
+    static struct about about;
+    struct session left;
+    about_clear(&about);
+    put_path(about.path, "%s", target->path);
+    about.has_id = target->is_there;
+    about.id = target->id;
+    about.mode = session->about.mode;
+    about.has_process = true;
+    about.process = *this_process();
+    about.marks = MARK_IN_PLACE | (session->about.marks & MARK_SECRET);
+    enum cause cause = session_begin(&left, sessions, &about, -1);
+    if (cause) return cause;
+    /* the backup comes last: with it the session counts */
+    bool is_moved = (renameat(session->folder, STEP_NAME, left.folder, STEP_NAME) == 0 || errno == ENOENT) &&
+                    renameat(session->folder, BACKUP_NAME, left.folder, BACKUP_NAME) == 0;
+    if (!is_moved) cause = cause_of(errno);
+    session_path_of(&left, BACKUP_NAME, path);
+    session_complete(&left, false);
+    session_close(&left);
     return cause;
 }
 
@@ -400,7 +363,7 @@ enum keeping session_mind(struct session *session) {
     return session->cause || !session->about.has_text ? KEEPS_NOT_YET : KEEPS;
 }
 
-bool session_settle(struct session *session, bool is_hasty) {
+bool session_complete(struct session *session, bool is_hasty) {
     session->is_hasty = is_hasty;
     /* the facts may have no room; what a recovery needs is there all the same */
     do session_mind(session);
@@ -408,7 +371,7 @@ bool session_settle(struct session *session, bool is_hasty) {
     return !has_lost(session) && session->about.has_text && session_has(session, ABOUT_NAME);
 }
 
-void session_note_file(struct session *session, const struct target *target) {
+void session_record_file(struct session *session, const struct target *target) {
     struct about *about = &session->about;
     bool is_new = target->is_there && !(about->has_id && is_surely_same_id(&about->id, &target->id) && is_same_id(&about->id, &target->id));
     bool has_moved = !about->beside[0] && strcmp(about->path, target->path) != 0;
@@ -420,7 +383,7 @@ void session_note_file(struct session *session, const struct target *target) {
     if (is_new || has_moved) session->is_about_due = true;
 }
 
-void session_note_saved(struct session *session) {
+void session_record_saved(struct session *session) {
     off_t size = session_journal_size(session);
     session->about.saved = size > 0 ? (uint64_t)size : 0;
     session->is_about_due = true;

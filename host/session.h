@@ -43,9 +43,6 @@ struct sessions {
     char distrusted[PATH_MAX];
 };
 
-/* Whether XDG_STATE_HOME is set and ignored, since it is not absolute. */
-bool is_state_home_relative(void);
-
 /* Finds the folder of the user's sessions and judges it. Does not create it. */
 void sessions_find(struct sessions *sessions);
 
@@ -125,11 +122,11 @@ enum keeping session_mind(struct session *session);
 bool session_is_due(const struct session *session);
 
 /* At the end, does all that is due; without syncs if it is hasty. Returns whether the session can be recovered. */
-bool session_settle(struct session *session, bool is_hasty);
+bool session_complete(struct session *session, bool is_hasty);
 
 /* Notes which file FILE is now, and FILE's path: after each save, and if its folder was renamed. Notes that all keys so far are saved. */
-void session_note_file(struct session *session, const struct target *target);
-void session_note_saved(struct session *session);
+void session_record_file(struct session *session, const struct target *target);
+void session_record_saved(struct session *session);
 
 /* Locks a session, trying for a second at most, reads its facts again, and opens its text and journal. HELD: another process has it. GONE:
  * it was removed. */
@@ -149,6 +146,10 @@ enum cause session_go_on(struct session *session, const char *beside, bool is_of
 enum cause session_renew(struct session *renewed, const struct sessions *sessions, const struct session *old, const char *versions,
                          const struct sum *known);
 
+/* Moves the backup of FILE, which stays torn while the session goes on with another file, to a new session of FILE alone, where a start of FILE
+ * finds it. Gives its new path. After a failure it may still be where it was. */
+enum cause session_leave_backup(struct session *session, const struct sessions *sessions, const struct target *target, char path[PATH_MAX]);
+
 /* Removes a session. First it is renamed to a name that no start looks at. If that fails, the session is whole, and the cause is
  * returned. After it the session is gone, even if a later start has to remove the rest of its files. */
 enum cause session_remove(struct session *session);
@@ -157,24 +158,17 @@ void session_remove_unless_locked(struct session *session);
 /* Removes the folder of this name in the folder of sessions, which is the session's, and all files in it. */
 void session_erase(const struct session *session, const char *name);
 
-/* Sets a mark, and writes it. */
 enum cause session_mark(struct session *session, enum mark mark);
 bool session_has_mark(const struct session *session, enum mark mark);
 
 /* ---- a session's files (session_facts.c) */
 
-/* Opens a file of a folder, never following a link or waiting for a pipe. */
-int part_open(int folder, const char *name, int flags);
 int session_open(const struct session *session, const char *name);
 bool session_has(const struct session *session, const char *name);
 /* Creates or replaces a file. */
 enum cause session_put(const struct session *session, const char *name, const void *bytes, size_t size);
 /* A file's path, for messages. */
 void session_path_of(const struct session *session, const char *name, char path[PATH_MAX]);
-/* A short file as a string, which the next call overwrites; NULL if it does not exist or cannot be read. `size` may be NULL. */
-char *read_short(int folder, const char *name, size_t *size);
-/* Identifies the file of this name in a folder. */
-bool file_id_at(int folder, const char *name, struct file_id *id);
 /* Sums up all of an open file; or the bytes after those that the sum has, where it returns 0 or an errno. */
 bool sum_file(int file, struct sum *sum);
 int sum_rest(int file, struct sum *sum);
@@ -207,9 +201,9 @@ uint64_t session_kilobytes(const struct session *session);
 /* ---- this process, the clock, what a replay depends on */
 const struct process *this_process(void);
 /* As users read it: date, hour and minute. */
-void time_words(const struct timespec *time, char words[32]);
+void format_time(const struct timespec *time, char words[32]);
 /* Writes the version, and the sizes and times of these files. Returns NULL; or the file that cannot be examined, with errno set. */
-const char *versions_look(const char *version, const char *const *files, size_t count, char words[MOST_WORDS]);
+const char *versions_look(const char *version, const char *const *files, size_t count, char words[FACT_MOST]);
 
 /* ---- sessions of version 0.4.0 (old_session.c) */
 
@@ -269,7 +263,8 @@ struct mending {
     /* The file with the whole text. */
     char backup[PATH_MAX];
 };
-/* Repairs FILE from the backup of a locked session. Unless FILE stays torn, the backup is renamed to SAVED_NAME. */
+/* Repairs FILE from the backup of a locked session; and the file that was FILE before, where the session ended between a save under a new name
+ * and its note. Unless FILE stays torn, the backup is renamed to SAVED_NAME. */
 enum cause session_mend(struct session *session, const struct sessions *sessions, const struct target *target, struct mending *mending);
 /* Repairs FILE from the backups of all sessions that no editor has open. Calls `tell` for each outcome; ends if FILE stays torn.
  * Returns whether FILE is whole. */

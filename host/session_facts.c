@@ -7,6 +7,7 @@
 #include <stdio.h>
 #include <string.h>
 #include <sys/file.h>
+#include <sys/utsname.h>
 #include <unistd.h>
 
 #include "file.h"
@@ -16,13 +17,9 @@
 
 /* KEEPER_TRIES: how often to wait KEEPER_PAUSE_MS for the keeper of a host that was killed. LONGEST_WITHOUT_KEYS: the longest journal that
  * is read to see whether it has only sizes and notices; at worst a longer one keeps a session without keys. */
-enum { FILE_MODE = 0600, KEEPER_TRIES = 200, KEEPER_PAUSE_MS = 50, LONGEST_WITHOUT_KEYS = 4096 };
+enum { KEEPER_TRIES = 200, KEEPER_PAUSE_MS = 50, LONGEST_WITHOUT_KEYS = 4096 };
 
 /* ---- files in the session's folder */
-
-int part_open(int folder, const char *name, int flags) {
-    return openat(folder, name, flags | O_NOFOLLOW | O_NONBLOCK | O_CLOEXEC, FILE_MODE);
-}
 
 int session_open(const struct session *session, const char *name) {
     return part_open(session->folder, name, O_RDONLY);
@@ -35,21 +32,6 @@ bool session_has(const struct session *session, const char *name) {
 
 void session_path_of(const struct session *session, const char *name, char path[PATH_MAX]) {
     put_path(path, "%s/%s", session->path, name);
-}
-
-char *read_short(int folder, const char *name, size_t *size) {
-    static char bytes[MOST_ABOUT + 1];
-    size_t length = 0;
-    ssize_t count = 1;
-    int file = part_open(folder, name, O_RDONLY);
-    while (file >= 0 && count > 0 && length < MOST_ABOUT) {
-        count = read(file, bytes + length, MOST_ABOUT - length);
-        if (count > 0) length += (size_t)count;
-    }
-    if (file >= 0) close(file);
-    bytes[length] = '\0';
-    if (size) *size = length;
-    return file < 0 || count < 0 || length == MOST_ABOUT ? NULL : bytes;
 }
 
 /* For read_pieces: sums up a piece of a file. */
@@ -66,9 +48,48 @@ bool sum_file(int file, struct sum *sum) {
     return sum_rest(file, sum) == 0;
 }
 
+/* ---- this process, the clock */
+
+/* Reads the first word of a file. On failure `word` stays as it is. */
+static void read_word(const char *path, char *word, size_t room) {
+    char *line = read_short(AT_FDCWD, path, NULL);
+    if (!line) return;
+    line[strcspn(line, " \t\r\n")] = '\0';
+    if (line[0]) snprintf(word, room, "%s", line);
+}
+
+const struct process *this_process(void) {
+    static struct process process;
+    struct utsname system;
+    if (!process.machine[0]) {
+        snprintf(process.machine, sizeof process.machine, "%s", uname(&system) == 0 && system.nodename[0] ? system.nodename : "localhost");
+        read_word("/proc/sys/kernel/random/boot_id", process.boot, sizeof process.boot);
+    }
+    process.number = (unsigned)getpid();
+    return &process;
+}
+
+void format_time(const struct timespec *time, char words[32]) {
+    struct tm parts;
+    words[0] = '\0';
+    if (localtime_r(&time->tv_sec, &parts)) strftime(words, 32, "%Y-%m-%d %H:%M", &parts);
+}
+
+const char *versions_look(const char *version, const char *const *files, size_t count, char words[FACT_MOST]) {
+    struct stat found;
+    size_t length = (size_t)snprintf(words, FACT_MOST, "bidi-edit %s", version);
+    for (size_t at = 0; at < count; at++) {
+        if (stat(files[at], &found) != 0) return files[at];
+        length += (size_t)snprintf(words + length, FACT_MOST - length, " %lld %lld %lld", (long long)found.st_size,
+                                   (long long)found.st_mtim.tv_sec, (long long)found.st_mtim.tv_nsec);
+        errno = ENAMETOOLONG;
+        if (length >= FACT_MOST) return files[at];
+    }
+    return NULL;
+}
+
 /* ---- facts */
 
-/* Returns 0 if the session still has its name in its folder of sessions, otherwise ENOENT or a fault. */
 int session_find_itself(const struct session *session) {
     struct stat own, named;
     if (fstat(session->folder, &own) != 0 || fstatat(session->parent, session_name(session), &named, AT_SYMLINK_NOFOLLOW) != 0) return errno;
@@ -165,6 +186,10 @@ static bool count_journal(const struct session *session, struct key_count *count
 size_t session_count_keys(const struct session *session) {
     struct key_count count;
     return count_journal(session, &count) ? count.keys : 0;
+}
+
+bool session_has_mark(const struct session *session, enum mark mark) {
+    return session->about.marks & mark;
 }
 
 off_t session_journal_size(const struct session *session) {

@@ -68,11 +68,11 @@ bool begin_of(const char *words, struct begin *begin) {
     return true;
 }
 
-void words_of_begin(const struct begin *begin, char words[MOST_WORDS]) {
+void begin_text(const struct begin *begin, char words[FACT_MOST]) {
     char line[16] = "-";
     if (begin->line > 0) snprintf(line, sizeof line, "%u", begin->line);
     char spaces[] = {' ', (char)('0' + begin->spaces % 10), '\0'};
-    snprintf(words, MOST_WORDS, "%u %u %s %s%s%s%s%s\n", begin->rows, begin->cols, begin->direction, line, begin->spaces ? spaces : "",
+    snprintf(words, FACT_MOST, "%u %u %s %s%s%s%s%s\n", begin->rows, begin->cols, begin->direction, line, begin->spaces ? spaces : "",
              begin->is_view ? " view" : "", begin->is_indented ? " indent" : "", begin->is_nameless ? " no-name" : "");
 }
 
@@ -88,11 +88,11 @@ bool file_id_of(const char *words, struct file_id *id) {
     return true;
 }
 
-void words_of_file_id(const struct file_id *id, char words[MOST_WORDS]) {
+void file_id_text(const struct file_id *id, char words[FACT_MOST]) {
     uint64_t device = id->device, inode = id->inode;
-    int length = snprintf(words, MOST_WORDS, "%" PRIu64 " %" PRIu64, device, inode);
+    int length = snprintf(words, FACT_MOST, "%" PRIu64 " %" PRIu64, device, inode);
     char *rest = words + length;
-    size_t room = MOST_WORDS - (size_t)length;
+    size_t room = FACT_MOST - (size_t)length;
     if (id->has_birth) {
         snprintf(rest, room, " %" PRId64 " %" PRIu32 "\n", id->birth_seconds, id->birth_nanos);
     } else {
@@ -119,9 +119,9 @@ bool process_of(const char *words, struct process *process) {
     return true;
 }
 
-void words_of_process(const struct process *process, char words[MOST_WORDS]) {
+void process_text(const struct process *process, char words[FACT_MOST]) {
     const char *boot = process->boot[0] ? process->boot : "-";
-    snprintf(words, MOST_WORDS, "%u %s %s\n", process->number, process->machine, boot);
+    snprintf(words, FACT_MOST, "%u %s %s\n", process->number, process->machine, boot);
 }
 
 bool may_go_on_elsewhere(const struct process *there, const struct process *here) {
@@ -205,18 +205,18 @@ static void put_sum(struct writing *writing, const char *key, const struct sum *
 
 size_t about_write(const struct about *about, char *words, size_t room) {
     struct writing writing = {.words = words, .room = room};
-    char value[MOST_WORDS];
+    char value[FACT_MOST];
     struct sum all;
     put(&writing, "bidi-edit session 1\n");
     put_name(&writing, "path", about->path);
     put_name(&writing, "beside", about->beside);
     put_name(&writing, "name", about->name);
-    words_of_file_id(&about->id, value);
+    file_id_text(&about->id, value);
     if (about->has_id) put(&writing, "file %s", value);
     if (about->mode >= 0) put(&writing, "mode %03o\n", (unsigned)about->mode);
-    words_of_begin(&about->begin, value);
+    begin_text(&about->begin, value);
     if (about->has_begin) put(&writing, "begin %s", value);
-    words_of_process(&about->process, value);
+    process_text(&about->process, value);
     if (about->has_process) put(&writing, "process %s", value);
     put(&writing, "versions %s\nmarks", about->versions);
     for (unsigned at = 0; at < MARKS; at++)
@@ -392,8 +392,8 @@ bool step_of(const char *words, struct step *step) {
     return false;
 }
 
-void words_of_step(const struct step *step, char words[MOST_WORDS]) {
-    snprintf(words, MOST_WORDS, "%s %" PRIu64 " %" PRIu64 " %" PRId64 " %" PRIu32 " %" PRIu64 " %" PRIu64 " %s\n", step_words[step->kind],
+void step_text(const struct step *step, char words[FACT_MOST]) {
+    snprintf(words, FACT_MOST, "%s %" PRIu64 " %" PRIu64 " %" PRId64 " %" PRIu32 " %" PRIu64 " %" PRIu64 " %s\n", step_words[step->kind],
              (uint64_t)step->id.device, (uint64_t)step->id.inode, step->seconds, step->nanos, step->from, step->to,
              step->boot[0] ? step->boot : "-");
 }
@@ -413,22 +413,24 @@ bool is_as_left(const struct step *step, const struct step *now) {
 
 /* Reads a byte of a journal. Bytes that go on with a character (80 to BF in UTF-8) or with a sequence are no keys of their own. */
 static void count_byte(struct key_count *count, unsigned char byte) {
-    enum { SAVE = 0x13, ESCAPE = 0x1b };
+    enum { SAVE = 0x13, ESCAPE = 0x1b, FILL = 102 };
     if (count->is_in_sequence) {
         bool is_final = (byte >= 'A' && byte <= 'Z') || (byte >= 'a' && byte <= 'z') || byte == '~';
+        if (byte >= '0' && byte <= '9') count->number = count->number % 1000 * 10 + (byte - '0');
         if ((byte >= '0' && byte <= '9') || byte == ';') return;
         if (byte == '>' && !count->is_notice) {
             count->is_notice = true;
             return;
         }
         count->is_in_sequence = false;
-        /* a size, and the Save right before it, and a notice are no keys */
+        /* a size, the Save right before it, the Fill after it, and a notice are no keys */
         if (byte == 't' && !count->is_notice) count->keys -= count->is_saved ? 2 : 1;
-        if (byte == '~' && count->is_notice) count->keys--;
+        if (byte == '~' && (count->is_notice || count->number == FILL)) count->keys--;
         if (is_final) return;
     } else if (count->is_escape && byte == '[') {
         count->is_in_sequence = true;
         count->is_escape = count->is_notice = false;
+        count->number = 0;
         return;
     }
     count->keys += byte < 0x80 || byte > 0xbf;

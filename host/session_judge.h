@@ -11,7 +11,7 @@
 /* ---- the words of a session's file `about`. Functions that read words return false if these are malformed. */
 
 /* The most bytes of one fact that is a word or more, and of the whole file. */
-enum { MOST_WORDS = 1024, MOST_ABOUT = 65536 };
+enum { FACT_MOST = 1024, MOST_ABOUT = 65536 };
 
 /* With what a session began: window, direction, line and options, on which a replay of its keys depends. */
 struct begin {
@@ -25,7 +25,7 @@ struct begin {
     bool is_view, is_indented, is_nameless;
 };
 bool begin_of(const char *words, struct begin *begin);
-void words_of_begin(const struct begin *begin, char words[MOST_WORDS]);
+void begin_text(const struct begin *begin, char words[FACT_MOST]);
 
 /* What identifies a file, whatever its names. A new file may get the inode number of a removed one, but not its time of birth. */
 struct file_id {
@@ -36,7 +36,7 @@ struct file_id {
     uint32_t birth_nanos;
 };
 bool file_id_of(const char *words, struct file_id *id);
-void words_of_file_id(const struct file_id *id, char words[MOST_WORDS]);
+void file_id_text(const struct file_id *id, char words[FACT_MOST]);
 /* Whether both are one file now; and whether they certainly are, though one of them was recorded long ago. Some disks get another device
  * number with each mount, so for that only inode and birth count. */
 bool is_same_id(const struct file_id *one, const struct file_id *other);
@@ -50,7 +50,7 @@ struct process {
     char boot[64];
 };
 bool process_of(const char *words, struct process *process);
-void words_of_process(const struct process *process, char words[MOST_WORDS]);
+void process_text(const struct process *process, char words[FACT_MOST]);
 /* Whether a session may be running on another machine, whose locks cannot be seen from here. `there` is NULL if its process is unknown. */
 bool may_go_on_elsewhere(const struct process *there, const struct process *here);
 
@@ -91,7 +91,7 @@ struct about {
     struct begin begin;
     struct process process;
     /* What a replay of its keys depends on. */
-    char versions[MOST_WORDS];
+    char versions[FACT_MOST];
     /* Bits of enum mark. */
     unsigned marks;
     /* The file `text` is complete, and has this sum; the part of the journal that is on the disk; and, if the text counts as unsaved, what
@@ -189,7 +189,7 @@ struct step {
     char boot[64];
 };
 bool step_of(const char *words, struct step *step);
-void words_of_step(const struct step *step, char words[MOST_WORDS]);
+void step_text(const struct step *step, char words[FACT_MOST]);
 /* Whether FILE, which has a part of the backup's text, is as the save left it. `now` has its identity, size (`from`), time and boot. */
 bool is_as_left(const struct step *step, const struct step *now);
 
@@ -199,6 +199,8 @@ struct key_count {
     size_t keys;
     /* The last byte was a Save, or an Escape; a Save came right before the last Escape. In a control sequence, which may be a notice. */
     bool is_save, is_escape, is_saved, is_in_sequence, is_notice;
+    /* The number that a control sequence begins with, as far as it was read. */
+    int number;
 };
 void count_more(struct key_count *count, const char *bytes, size_t size);
 

@@ -18,12 +18,6 @@ enum { HOUR = 3600, FOLDER_MODE = 0700 };
 
 /* ---- where it is */
 
-bool is_state_home_relative(void) {
-    const char *state = variable("XDG_STATE_HOME");
-    return state && state[0] != '/';
-}
-
-/* The path in a home folder. */
 static bool below_home(const char *home, char path[PATH_MAX]) {
     return put_path(path, "%s/.local/state/bidi_edit", home);
 }
@@ -181,7 +175,8 @@ void walk_end(struct walk *walk) {
 
 /* ---- the sessions of a file */
 
-bool file_id_at(int folder, const char *name, struct file_id *id) {
+/* Identifies the file of this name in a folder. */
+static bool file_id_at(int folder, const char *name, struct file_id *id) {
     int file = open_itself(folder, name);
     bool is_found = file >= 0 && find_id(file, id);
     if (file >= 0) close(file);

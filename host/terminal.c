@@ -15,7 +15,7 @@
 #include "run.h"
 #include "signals.h"
 #include "util.h"
-#include "words.h"
+#include "command_line.h"
 
 /* The most bytes that wait for the terminal, of a title, and of other sequences; how often to try to change settings. */
 enum { MOST_SHOWN = 16384, MOST_TITLE = 4096, MOST_SEQUENCES = 1024, SETTINGS_TRIES = 3 };
@@ -55,6 +55,7 @@ enum { FIRST_MS = 3000 };
 #define END_TITLE "\033[23;0t"
 
 int terminal_line = -1, terminal_screen = -1;
+struct watched *watched;
 
 /* The settings from before, and the host's own. */
 static struct termios cooked, raw;
@@ -151,8 +152,8 @@ static bool tells_keys(void) {
 const char *terminal_hint(const char **name) {
     kind = find_kind();
     *name = kind == KITTY ? "kitty" : "qterminal";
-    if (kind == KITTY) return "kitty reverses Hebrew and Arabic words: see 'man bidi-edit', TERMINALS";
-    return kind == QTERMINAL ? "qterminal reverses Hebrew and Arabic words: see 'man bidi-edit', TERMINALS" : NULL;
+    if (kind == KITTY) return "kitty reverses Hebrew and Arabic words: see 'man bidi_edit-terminals'";
+    return kind == QTERMINAL ? "qterminal reverses Hebrew and Arabic words: see 'man bidi_edit-terminals'" : NULL;
 }
 
 /* ---- the terminal, its size and settings */

@@ -111,12 +111,12 @@ extern struct watched *watched;
 extern pid_t watcher;
 
 /* Remembers the program's name in the command line. The watcher overwrites it in its own memory, to be listed under another name. */
-void note_own_word(char *word);
+void note_own_argument(char *word);
 
-/* Starts the watcher. It reads the program's pipe `words`, whose end tells it that the program has ended. Until then it holds the session's
+/* Starts the watcher. It reads the program's pipe `frames`, whose end tells it that the program has ended. Until then it holds the session's
  * folder and lock (-1 without a session). Once it has restored the terminal, it says how the session is recovered, with this word
  * for FILE, if that is not NULL. */
-bool start_watcher(int words, const int held[2], const char *file);
+bool start_watcher(int frames, const int held[2], const char *file);
 
 /* Changes the word that it says. */
 void put_last_line(const char *file);

@@ -97,6 +97,15 @@ int write_bytes(int file, const void *bytes, size_t size) {
     return 0;
 }
 
+ssize_t read_all(int file, char *bytes, size_t room) {
+    size_t length = 0;
+    for (ssize_t count = 1; count > 0 && length < room; length += (size_t)count) {
+        count = read(file, bytes + length, room - length);
+        if (count < 0) return -1;
+    }
+    return (ssize_t)length;
+}
+
 int read_pieces(int file, off_t place, void (*read)(void *, const char *, size_t), void *context) {
     static char piece[PIECE];
     for (;;) {
@@ -129,6 +138,21 @@ int copy_file(int from, off_t place, int to) {
     struct copying copying = {.to = to};
     int error = read_pieces(from, place, copy_piece, &copying);
     return error ? error : copying.error;
+}
+
+int part_open(int folder, const char *name, int flags) {
+    return openat(folder, name, flags | O_NOFOLLOW | O_NONBLOCK | O_CLOEXEC, 0600);
+}
+
+char *read_short(int folder, const char *name, size_t *size) {
+    static char bytes[MOST_SHORT + 1];
+    int file = part_open(folder, name, O_RDONLY);
+    ssize_t length = file < 0 ? -1 : read_all(file, bytes, MOST_SHORT);
+    close_one(&file);
+    if (length < 0 || length == MOST_SHORT) return NULL;
+    bytes[length] = '\0';
+    if (size) *size = (size_t)length;
+    return bytes;
 }
 
 DIR *open_entries(int folder) {

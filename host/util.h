@@ -21,6 +21,13 @@ int open_itself(int folder, const char *name);
 
 bool is_folder(const char *path);
 
+/* Opens a file of a folder, never following a link or waiting for a pipe. A new file is the user's alone. */
+int part_open(int folder, const char *name, int flags);
+
+/* A short file as a string, which the next call overwrites; NULL if it does not exist or cannot be read. `size` may be NULL. */
+enum { MOST_SHORT = 65536 };
+char *read_short(int folder, const char *name, size_t *size);
+
 /* The path of an open file, for calls that take no O_PATH and for other programs. */
 struct link {
     char path[32];
@@ -40,6 +47,9 @@ const char *variable(const char *name);
  * share blocks. */
 int write_bytes(int file, const void *bytes, size_t size);
 int copy_file(int from, off_t place, int to);
+
+/* Reads what an open file has from its position on, as far as there is room. Returns the number of bytes; -1 at a fault. */
+ssize_t read_all(int file, char *bytes, size_t room);
 
 /* Calls `read` with the bytes of an open file, piece by piece, from a place on. */
 int read_pieces(int file, off_t place, void (*read)(void *, const char *, size_t), void *context);

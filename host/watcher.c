@@ -22,14 +22,13 @@
  * restores it. WATCH_MS: between two looks at a process. */
 enum { SAVE_MS = 4500, TTY_RESTORE_MS = 1000, WATCH_MS = 50 };
 
-struct watched *watched;
 pid_t watcher;
 
 /* The program's name in the command line, and a copy of it. */
 static char *own_word, own_name[PATH_MAX];
 static size_t own_room;
 
-void note_own_word(char *word) {
+void note_own_argument(char *word) {
     own_word = word;
     own_room = word ? strnlen(word, sizeof own_name - 1) : 0;
     for (size_t i = 0; i < own_room; i++) own_name[i] = word[i];
@@ -76,7 +75,7 @@ static void restore(bool is_left_to_shell) {
 /* The watcher's life: waits for the host's end, then restores the terminal if the host did not, and ends the program and its save. A shell
  * shows its prompt at the same time: if no painting can follow, the screen is restored at once, so that the prompt mostly comes behind
  * that. */
-static _Noreturn void watch(int words, pid_t host) {
+static _Noreturn void watch(int frames, pid_t host) {
     /* the kernel releases a dead process's lock before it tells the parent; without a lock, this looks for the host again and again */
     if (pthread_mutex_lock(&watched->life) != EOWNERDEAD)
         while (getppid() == host) poll(NULL, 0, WATCH_MS);
@@ -90,7 +89,7 @@ static _Noreturn void watch(int words, pid_t host) {
     if (is_ours) restore_settings();
     if (is_quiet) restore(!is_ours && has_other_settings());
     if (is_paste) tcflow(terminal_line, TCOON);
-    if (!ends_before(words, start + GRACE_MS) && watched->program > 0) kill(watched->program, SIGKILL);
+    if (!ends_before(frames, start + GRACE_MS) && watched->program > 0) kill(watched->program, SIGKILL);
     if (is_changed && !is_quiet) restore(has_other_settings());
     /* a save ends soon, since its pipe has ended with the program */
     while (watched->saver > 0 && now() < start + SAVE_MS && kill(watched->saver, 0) == 0) poll(NULL, 0, WATCH_MS);
@@ -111,8 +110,8 @@ static bool share(void) {
 
 /* Becomes the watcher. It closes all descriptors that it does not need, since others may wait for the end of a pipe or for FILE to be closed. No
  * signal but SIGKILL can end it. */
-static _Noreturn void become_watcher(int words, const int held[2], pid_t host) {
-    const int kept[] = {words, terminal_line, held[0], held[1]};
+static _Noreturn void become_watcher(int frames, const int held[2], pid_t host) {
+    const int kept[] = {frames, terminal_line, held[0], held[1]};
     sigset_t mask;
     sigfillset(&mask);
     sigprocmask(SIG_SETMASK, &mask, NULL);
@@ -120,7 +119,7 @@ static _Noreturn void become_watcher(int words, const int held[2], pid_t host) {
     /* a process without a controlling terminal is never stopped for being in the background */
     ioctl(terminal_line, TIOCNOTTY);
     close_others(kept, sizeof kept / sizeof *kept);
-    watch(words, host);
+    watch(frames, host);
 }
 
 void put_last_line(const char *file) {
@@ -128,7 +127,7 @@ void put_last_line(const char *file) {
 }
 
 /* Users kill processes by the host's name, so the watcher never has that name. */
-bool start_watcher(int words, const int held[2], const char *file) {
+bool start_watcher(int frames, const int held[2], const char *file) {
     static const char name[] = "bidi-watcher";
     char before[16];
     pid_t host = getpid();
@@ -137,7 +136,7 @@ bool start_watcher(int words, const int held[2], const char *file) {
     prctl(PR_GET_NAME, before);
     take_name(name, name);
     watcher = fork();
-    if (watcher == 0) become_watcher(words, held, host);
+    if (watcher == 0) become_watcher(frames, held, host);
     take_name(before, own_name);
     if (watcher < 0) watcher = 0;
     /* in a process group of its own before the terminal changes, so that a kill of the whole job spares it */

@@ -1,6 +1,6 @@
 /* The command line, read into a call; the help and the version. */
-#ifndef WORDS_H
-#define WORDS_H
+#ifndef COMMAND_LINE_H
+#define COMMAND_LINE_H
 
 #include <stdbool.h>
 #include <stddef.h>
@@ -17,7 +17,6 @@ enum { LARGEST_SIDE = 500 };
 
 enum direction { DIRECTION_AUTO, DIRECTION_LTR, DIRECTION_RTL };
 
-/* The word for a direction. */
 const char *direction_word(enum direction direction);
 
 enum call_kind { CALL_HELP, CALL_VERSION, CALL_PRINT, CALL_LIST, CALL_FORGET, CALL_RECOVER, CALL_EDIT };
@@ -51,7 +50,7 @@ struct call {
 
 /* Parses the command line, without the program's name, over what `call` has already. Returns 0; or an exit status, with the message in
  * `cause`. */
-int read_words(int count, char *const *words, struct call *call, const char **cause);
+int read_command_line(int count, char *const *words, struct call *call, const char **cause);
 
 /* Parses a line of the file of options, which it changes. Returns NULL, or why the line is passed over. */
 const char *read_option(char *line, struct call *call);
@@ -86,15 +85,15 @@ struct tables {
 const char *find_tables(struct tables *tables, const char *own);
 
 /* The arguments of a program to be started, ended by NULL. */
-enum { WORDS_MOST = 64 };
-struct words {
-    char *words[WORDS_MOST];
+enum { ARGUMENTS_MOST = 64 };
+struct arguments {
+    char *arguments[ARGUMENTS_MOST];
     size_t count;
 };
-void add_word(struct words *words, const char *word);
-void add_option(struct words *words, const char *option, const char *value);
+void add_argument(struct arguments *arguments, const char *word);
+void add_option(struct arguments *arguments, const char *option, const char *value);
 
 /* Adds the options that name the tables; with `is_joined`, also those of the tables for joined letters. */
-void add_tables(struct words *words, const struct tables *tables, bool is_joined);
+void add_tables(struct arguments *arguments, const struct tables *tables, bool is_joined);
 
 #endif

@@ -1,5 +1,5 @@
-/* The command line, read into a call; the help and the version; and the arguments of the program. words.h says what each call promises. */
-#include "words.h"
+/* The command line, read into a call; the help and the version; and the arguments of the program. command_line.h says what each call promises. */
+#include "command_line.h"
 
 #include <stddef.h>
 #include <stdio.h>
@@ -28,7 +28,7 @@ const char help_text[] = USAGE "\n"
     "       bidi-edit --print FILE [--cols N] [--marks]   (the manual: man bidi-edit)\n"
     "- edits what comes from a pipe. --view only shows the text, --force opens a FILE\n"
     "that cannot be saved, -n keeps no copy of unsaved text, --tab N types blanks.\n"
-    "--no-indent --no-joining --no-mouse --no-clipboard --no-options turn these off.\n"
+    "--no-indent --no-joining --no-mouse --no-clipboard --no-options disable these.\n"
     "--recover restores or lists unsaved text, --to stores it, --forget deletes it.\n"
     "\n"
     "  Arrow keys            move as the screen shows; Ctrl-Left, Ctrl-Right by words\n"
@@ -187,7 +187,7 @@ static void take_file(struct reading *reading, const char *word, int count) {
 }
 
 /* Decides what the options and FILE ask for. */
-static void settle(struct reading *reading) {
+static void complete_call(struct reading *reading) {
     enum call_kind kind = reading->is_recovery ? CALL_RECOVER : reading->is_forgetting ? CALL_FORGET : CALL_EDIT;
     if (reading->is_print) kind = CALL_PRINT;
     else if (reading->is_recovery && reading->is_forgetting) reading->cause = "--recover and --forget cannot be combined";
@@ -201,7 +201,7 @@ static void settle(struct reading *reading) {
 }
 
 /* Reads the words: options and FILE, with --print in any order, else FILE last. -h, --help and --version end it at once. */
-static void take_words(struct reading *reading, int count, char *const *words) {
+static void take_frames(struct reading *reading, int count, char *const *words) {
     bool may_be_option = true;
     for (int taken; count > 0 && !reading->cause; count -= taken, words += taken) {
         const char *word = words[0];
@@ -221,7 +221,7 @@ static void take_words(struct reading *reading, int count, char *const *words) {
             taken = take_option(reading, count, words);
         }
     }
-    if (!reading->cause) settle(reading);
+    if (!reading->cause) complete_call(reading);
 }
 
 /* The path that an argument names, with ./ in front if it could be taken for an option. */
@@ -229,10 +229,10 @@ static const char *word_path(const char *word) {
     return *word == '-' || *word == '+' ? text_of("./%s", word) : word;
 }
 
-int read_words(int count, char *const *words, struct call *call, const char **cause) {
+int read_command_line(int count, char *const *words, struct call *call, const char **cause) {
     struct reading reading = {.call = call};
     call->kind = CALL_EDIT;
-    take_words(&reading, count, words);
+    take_frames(&reading, count, words);
     if (reading.cause) {
         *cause = text_of("%s\n%s", reading.cause, reading.is_print ? print_usage : usage);
         return STATUS_NO;
@@ -331,22 +331,22 @@ const char *find_tables(struct tables *tables, const char *own) {
     return text_of("%s %s: install the editor again", shown(own), lacks);
 }
 
-void add_word(struct words *words, const char *word) {
-    if (words->count + 1 == WORDS_MOST) tell_no_memory();
-    words->words[words->count++] = text_of("%s", word);
-    words->words[words->count] = NULL;
+void add_argument(struct arguments *arguments, const char *word) {
+    if (arguments->count + 1 == ARGUMENTS_MOST) tell_no_memory();
+    arguments->arguments[arguments->count++] = text_of("%s", word);
+    arguments->arguments[arguments->count] = NULL;
 }
 
-void add_option(struct words *words, const char *option, const char *value) {
-    add_word(words, option);
-    add_word(words, value);
+void add_option(struct arguments *arguments, const char *option, const char *value) {
+    add_argument(arguments, option);
+    add_argument(arguments, value);
 }
 
-void add_tables(struct words *words, const struct tables *tables, bool is_joined) {
-    add_option(words, "--classes", tables->classes);
-    add_option(words, "--brackets", tables->brackets);
-    add_option(words, "--mirroring", tables->mirroring);
+void add_tables(struct arguments *arguments, const struct tables *tables, bool is_joined) {
+    add_option(arguments, "--classes", tables->classes);
+    add_option(arguments, "--brackets", tables->brackets);
+    add_option(arguments, "--mirroring", tables->mirroring);
     if (!is_joined || !tables->joining) return;
-    add_option(words, "--joining", tables->joining);
-    add_option(words, "--characters", tables->characters);
+    add_option(arguments, "--joining", tables->joining);
+    add_option(arguments, "--characters", tables->characters);
 }
