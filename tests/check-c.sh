@@ -1,7 +1,8 @@
 #!/bin/sh
 # check-c.sh: runs gcc -fanalyzer, clang-tidy and cppcheck over each file of the host and of its tests. They must tell nothing. It takes
-# two minutes of processor time, on all processors. A tool that is missing is skipped. The last line has the totals, in which a file
-# counts once for each tool. Exit status 1: a tool tells something; 77: none of them is there.
+# two minutes of processor time, on all processors. A tool that is missing is skipped. It also checks that no file of the host calls one
+# that docs/ARCHITECTURE.md lists above it or beside it. The last line has the totals, in which a file counts once for each tool. Exit
+# status 1: a tool tells something; 77: none of them is there.
 set -u
 
 top=$(CDPATH='' cd -- "$(dirname -- "$0")/.." && pwd)
@@ -35,6 +36,41 @@ check() { # TOOL LINE
     done
 }
 
+# Prints the lines of the list of layers, the highest first.
+listed_layers() {
+    awk '$0 == "```layers of the host" { inside = 1; next } /^```$/ { inside = 0 } inside' docs/ARCHITECTURE.md
+}
+
+# Prints each use of a name of another file that is not below: `FILE uses NAME of FILE`. Also each file that is not listed.
+wrong_uses() {
+    listed_layers >"$room/layers"
+    (cd host && for file in *.c; do nm -A "$room/${file%.c}.o"; done) | sed "s|^$room/\([a-z_]*\)\.o:|\1 |" | awk '
+        NR == FNR { for (i = 1; i <= NF; i++) layer[$i] = FNR; next }
+        NF == 4 && $3 ~ /[TDBRC]/ { home[$4] = $1 }
+        NF == 3 && $2 == "U" { uses[$1, $3] = $1; name[$1, $3] = $3 }
+        { files[$1] }
+        END {
+            for (use in uses) {
+                to = home[name[use]]
+                if (to != "" && to != uses[use] && layer[to] <= layer[uses[use]]) print uses[use] " uses " name[use] " of " to
+            }
+            for (file in files) if (!(file in layer)) print file " is not listed"
+        }' "$room/layers" -
+}
+
+check_layers() {
+    if ! command -v gcc >/dev/null || ! command -v nm >/dev/null; then
+        skipped=$((skipped + 1))
+        echo 'skipped layers: there is no gcc or no nm'
+        return
+    fi
+    for file in host/*.c; do gcc -std=c11 -D_GNU_SOURCE -c -o "$room/$(basename "$file" .c).o" "$file"; done
+    wrong=$(wrong_uses)
+    [ -z "$wrong" ]
+    report layers $? "$wrong"
+}
+
+check_layers
 check gcc "gcc $options -Werror -O2 -fanalyzer -c -o /dev/null FILE"
 check clang-tidy "clang-tidy --quiet --config-file=host/.clang-tidy --warnings-as-errors=* FILE -- $options"
 check cppcheck "cppcheck --enable=warning,style,performance,portability --error-exitcode=1 --quiet --std=c11 -D_GNU_SOURCE FILE"

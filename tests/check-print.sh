@@ -1,11 +1,10 @@
 #!/bin/sh
 # check-print.sh [ROWS]: prints texts with bidi_print and compares the lines byte by byte: with the rows of ROWS, and with the
-# output of fribidi for random paragraphs. The latter may differ in wrapped paragraphs, since fribidi wraps after reordering. It
-# also runs the program to its ends, and compares statuses and faults. ROWS is a file of rows from an independent source, maybe
-# packed by gzip, made with the tables of crates/bidi_print/data; by default tests/data/rows.tsv.gz. A line has the text as UTF-8 in
-# hexadecimal, the direction, the columns, the row's number, two ignored fields, and the glyphs from left to right as
-# BYTES:COLUMNS, with an n after a negative one. The last line has the totals: a text, an end and the comparison with fribidi count
-# as one each. Exit status 1: a forbidden difference.
+# output of fribidi for random paragraphs. The latter may differ in wrapped paragraphs, since fribidi wraps after reordering.
+# ROWS is a file of rows from an independent source, maybe packed by gzip, made with the tables of crates/bidi_print/data; by
+# default tests/data/rows.tsv.gz. A line has the text as UTF-8 in hexadecimal, the direction, the columns, the row's number, two
+# ignored fields, and the glyphs from left to right as BYTES:COLUMNS, with an n after a negative one. The last line has the
+# totals: a text and the comparison with fribidi count as one each. Exit status 1: a forbidden difference.
 set -eu
 export LC_ALL=C
 
@@ -192,52 +191,6 @@ compare_fribidi() {
     if compare_paragraphs "$scratch/ours" "$scratch/theirs"; then passed=$((passed + 1)); else failed=$((failed + 1)); fi
 }
 
-# ---- ends
-
-# Runs the program with these words, and checks its status and its first line on standard error. Standard output goes to the file
-# that `output` names. Counts in `agreed` and `differing`.
-end_by() { # STATUS LINE WORD..
-    wanted=$1 line=$2
-    shift 2
-    status=0
-    "$program" --classes "$tables/DerivedBidiClass.txt" --brackets "$tables/BidiBrackets.txt" \
-        --mirroring "$tables/BidiMirroring.txt" "$@" >"$output" 2>"$scratch/stderr" || status=$?
-    if [ "$status" = "$wanted" ] && [ "$(head -n 1 "$scratch/stderr")" = "$line" ]; then
-        agreed=$((agreed + 1))
-    else
-        differing=$((differing + 1))
-        echo "$*: status $status and not $wanted, or another line than: $line"
-    fi
-}
-
-# Runs the program to each of its ends, and compares status, output and fault.
-compare_endings() {
-    agreed=0 differing=0
-    output=$scratch/stdout
-    : >"$scratch/empty"
-    printf 'ab\n' >"$scratch/short"
-    printf 'abc\377\n' >"$scratch/bytes"
-    # too long by a few bytes, cut inside a letter
-    awk 'BEGIN { printf "a"; for (i = 0; i < 5592407; i++) print "א" }' >"$scratch/long"
-    for text in "$scratch/empty" "$scratch/short"; do
-        end_by 0 '' "$text"
-        if ! cmp -s "$text" "$output"; then
-            echo "$text is not printed as it is"
-            differing=$((differing + 1))
-        fi
-    done
-    end_by 1 "bidi_print: cannot read 'not here'" 'not here'
-    end_by 1 'bidi_print: cannot read /' /
-    end_by 1 'bidi_print: not UTF-8 at byte 3' "$scratch/bytes"
-    end_by 1 'bidi_print: file too long' "$scratch/long"
-    end_by 2 "error: invalid value '0' for '--cols <N>': 0 is not in 1..=500" --cols 0 "$scratch/short"
-    end_by 2 "error: invalid value '501' for '--cols <N>': 501 is not in 1..=500" --cols 501 "$scratch/short"
-    output=/dev/full
-    end_by 1 'bidi_print: output failed' "$scratch/short"
-    echo "endings: $agreed of $((agreed + differing)) are as they should be"
-    count_compared
-}
-
 rows=${1:-$top/tests/data/rows.tsv.gz}
 tables=$crate/../../data
 scratch=$(mktemp -d)
@@ -245,7 +198,6 @@ trap 'rm -rf "$scratch"' EXIT
 trap 'exit 130' INT
 trap 'exit 143' TERM
 find_built bidi_print
-compare_endings
 compare_rows "$rows"
 if command -v fribidi >/dev/null; then
     compare_fribidi

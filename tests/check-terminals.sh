@@ -15,7 +15,7 @@ export LC_ALL=C.UTF-8
 top=$(CDPATH='' cd -- "$(dirname "$0")/.." && pwd)
 # shellcheck source=tests/report.sh
 . "$top/tests/report.sh"
-for part in window kinds variables checks mouse; do
+for part in window kinds checks mouse; do
     # shellcheck source=/dev/null
     . "$top/tests/terminals/$part.sh"
 done
@@ -35,7 +35,7 @@ if [ "${1:-}" = --pictures ]; then
     mkdir -p "$2" && pictures=$(CDPATH='' cd -- "$2" && pwd) || exit 1
     shift 2
 fi
-[ $# -gt 0 ] || set -- variables xterm xterm_set urxvt st alacritty alacritty_tmux alacritty_screen terminology kitty \
+[ $# -gt 0 ] || set -- xterm xterm_set urxvt st alacritty alacritty_tmux alacritty_screen terminology kitty \
     qterminal vte konsole mlterm mlterm_set foot
 
 passed=0 failed=0 skipped=0

@@ -30,9 +30,14 @@ try() { # NAME SOURCE..
     compile "$tried" "../tests/host/$tried.c" "$@" && "$folder/$tried"
 }
 
-# Runs a function, and prints the sum of all totals that it printed, as the last line. Its status says whether nothing failed.
+# Runs a function, and prints the sum of all totals that it printed, as the last line. Its status says whether nothing failed. A part that
+# did not come to its totals is told, and counts as one that failed.
 add_up() { # FUNCTION WORD..
     { "$@" || : >"$folder/failed"; } | tee "$folder/said"
+    if [ -e "$folder/failed" ] && ! grep -q '^[0-9]* passed, [1-9][0-9]* failed' "$folder/said"; then
+        echo 'FAILS a part of this check did not come to its end' | tee -a "$folder/said"
+        echo '0 passed, 1 failed' >>"$folder/said"
+    fi
     awk '/^[0-9]+ passed, [0-9]+ failed/ { passed += $1; failed += $3; skipped += $5 }
         END { print passed + 0 " passed, " failed + 0 " failed" (skipped ? ", " skipped " skipped" : "") }' "$folder/said"
     [ ! -e "$folder/failed" ]

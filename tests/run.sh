@@ -19,11 +19,10 @@ cd "$top" || exit 1
 # Lists the parts, the longest first: a name, the seconds after which it counts as hanging, and the script with its words.
 parts() {
     cat <<'TEXT'
-terminal 1500 check-launcher.sh words tables size access refused opening checks printing kill leftovers modes nonblock controlling title outer
-editing 1500 check-launcher.sh edit breaks quit long end file line stop install caller paste input keys comfort joining
+play 1500 check-play.sh
 saves 1500 check-saves.sh --quick
 host 1500 check-host.sh
-recovery 1500 check-recovery.sh 30
+recovery 900 check-recovery.sh 100
 rows 1500 check-print.sh
 sessions 1500 check-sessions.sh
 schedules 900 check-schedules.sh
@@ -31,7 +30,6 @@ cases 900 check-cases.sh
 orders 900 check-orders.sh
 edits 900 check-edits.sh 200
 joined-rows 900 check-joined-rows.sh
-statuses 900 check-statuses.sh
 runs 900 check-runs.sh
 files 900 check-files.sh
 session-files 900 check-session-files.sh

@@ -121,7 +121,7 @@ make_package() {
     package=$folder/package
     mkdir -p "$package/DEBIAN" "$package/usr/share/lintian/overrides"
     cp -R "$folder/tree/." "$package/usr/"
-    gzip -9n "$package/usr/share/man/man1/bidi_edit.1"
+    gzip -9n "$package/usr/share/man/man1/bidi_edit.1" "$package/usr/share/man/man7/bidi_edit-terminals.7"
     rm "$package/usr/share/man/man1/bidi-edit.1"
     mv "$package/usr/share/man/man1/bidi_edit.1.gz" "$package/usr/share/man/man1/bidi-edit.1.gz"
     ln -s bidi-edit.1.gz "$package/usr/share/man/man1/bidi_edit.1.gz"

@@ -31,7 +31,7 @@ make_repository() {
     cp -R "$here/../bidi-edit" "$here/../NOTICE" "$here/../CHANGELOG.md" "$folder/first/"
     cp "$here/../host/build.sh" "$folder/first/host/"
     cp "$here/../data/"*.txt "$folder/first/data/"
-    cp "$here/../docs/bidi_edit.1" "$folder/first/docs/"
+    cp "$here/../docs/bidi_edit.1" "$here/../docs/bidi_edit-terminals.7" "$folder/first/docs/"
     cp -R "$here/../scripts" "$here/../tools" "$folder/first/"
     cp "$here/built.sh" "$here/report.sh" "$folder/first/tests/"
     printf '# a comment\nlow:\nunused: low\n' >"$folder/first/crates.txt"

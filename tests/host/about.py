@@ -1,9 +1,10 @@
 #!/usr/bin/env python3
 """about.py FOLDER KEY WORDS: changes a fact of a session, with the right sum. about.py FOLDER FILE: reads a new content of its file `text`
-or `journal` from standard input, as if the editor had written it.
+or `journal` from standard input, as if the editor had written it. about.py --torn FOLDER FILE: leaves FILE and the session as a save of standard input into FILE does that is
+killed.
 
 The file `about` of a session's folder has lines of a key and words, and in the last one the sum of all. A sum is FNV-1a, in 64 bits."""
-import sys
+import os, sys
 
 
 def sum_of(bytes_):
@@ -36,8 +37,22 @@ def put_part(folder, name, bytes_):
         put_fact(folder, name, f'{len(bytes_)} {sum_of(bytes_):016x}')
 
 
+def tear(folder, path, text):
+    """Leaves a file with three bytes of a text, and the session with the whole and a note of the save."""
+    put_part(folder, 'mark', text)
+    with open(path, 'r+b') as file:
+        file.write(text[:3])
+        file.truncate()
+    look = os.stat(path)
+    with open('/proc/sys/kernel/random/boot_id', encoding='ascii') as boot:
+        step = f'partly {look.st_dev} {look.st_ino} {look.st_mtime_ns // 10**9} {look.st_mtime_ns % 10**9} 0 9 {boot.read().strip()}\n'
+    put_part(folder, 'mark.step', step.encode())
+
+
 if __name__ == '__main__':
-    if len(sys.argv) == 4:
+    if sys.argv[1] == '--torn':
+        tear(sys.argv[2], sys.argv[3], sys.stdin.buffer.read())
+    elif len(sys.argv) == 4:
         put_fact(*sys.argv[1:])
     else:
         put_part(sys.argv[1], sys.argv[2], sys.stdin.buffer.read())

@@ -2,7 +2,7 @@
 counts as a check of its own."""
 import os, random, shutil, signal, sys, tempfile
 sys.path.insert(0, os.path.dirname(os.path.abspath(__file__)))
-import cases, ends, faults, kinds, mouse, saves, shells
+import ends, faults
 from checks import Report, share, try_case
 from terminals import become_reaper
 from tree import Tree
@@ -10,8 +10,7 @@ from tree import Tree
 
 def all_cases(runs):
     """The cases by their names; those of ends.py end so many runs each."""
-    singles = [case for part in (cases, saves, kinds, mouse, shells, faults) for case in part.CASES]
-    return {case.__name__: case for case in singles} | {kind: ends.case_of(kind, runs) for kind in ends.KINDS}
+    return {case.__name__: case for case in faults.CASES} | {kind: ends.case_of(kind, runs) for kind in ends.KINDS}
 
 
 def worker(host, found, names):

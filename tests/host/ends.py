@@ -3,6 +3,7 @@ output the alternate screen, pastes, the mouse, reordering and the modes of Alt 
 import os, random, re, signal, termios, time
 from terminals import HANG, Run
 
+QUIT, SAVE = b'\x11', b'\x13'
 # What the host writes last: the title is given back, the alternate screen ends.
 TAIL = b'\x1b[23;0t\x1b[?1049l'
 STOP = 5  # seconds for a stop, after which the host is continued all the same: nothing depends on it

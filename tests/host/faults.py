@@ -1,9 +1,8 @@
 """Each system call of the host failed in turn, by strace: the terminal is restored, no process is left, and a session that does not
 go on says why."""
 import os, re, signal
-from cases import QUIT, SAVE
 from checks import needs
-from ends import restored
+from ends import QUIT, SAVE, restored
 from terminals import Run
 
 # The error that a call fails by, one that the system may give; EIO for all others.

@@ -1,8 +1,11 @@
-/* A library to be preloaded: it makes calls of a save fail. It counts the calls of the C library that the child of a save makes, from
- * the moment that it has its name on, and obeys these variables:
+/* A library to be preloaded: it makes calls of a save fail. It counts the calls of the C library that a child of the host makes: the saver's
+ * from the moment that it has its name on; the keeper's from the order that tells it of a save to its next pause. It obeys these variables:
+ *   FAULT_IN=NAME    the child, bidi-saver or bidi-keeper; the first one without it
  *   FAULT_AT=N       the call of this number, from 1, fails, once in all runs that share FAULT_LOG
+ *   FAULT_CALL=NAME  in its place, the first call of this name
  *   FAULT_ERROR=N    with this errno; 0 kills the process before the call, -1 after it
- *   FAULT_LOG=PATH   the names of the calls are appended there, a line each; and `FAULT` after the one that failed
+ *   FAULT_WHOM=WORD  which process is killed: `host` for the host in place of the child, `all` for all of the host's job
+ *   FAULT_LOG=PATH   the names of the calls are appended there, a line each; `FAULT` after the one that failed, `PAUSE` at the keeper's pause
  *   LACKS=WORDS      calls that the system or the file system does not have: tmpfile, exchange, noreplace, link, sync, lock, lists,
  *                    statx, close_range; and proc, for paths below /proc, which the driver has at its start as the host does
  */
@@ -10,6 +13,7 @@
 #include <errno.h>
 #include <fcntl.h>
 #include <linux/fs.h>
+#include <poll.h>
 #include <signal.h>
 #include <stdarg.h>
 #include <stdbool.h>
@@ -25,9 +29,10 @@
 #include <sys/xattr.h>
 #include <unistd.h>
 
-static bool is_on, is_done, is_hit;
+/* Calls count; the fault was made; it was made by this process, which is the keeper. */
+static bool is_on, is_done, is_hit, is_keeper;
 static long count, fault_at, fault_error;
-static const char *log_path, *lacks = "";
+static const char *log_path, *lacks = "", *child = "bidi-saver", *whom = "", *call_name = "";
 
 static long real_syscall(long number, long a, long b, long c, long d, long e) {
     static long (*call)(long, ...);
@@ -48,6 +53,13 @@ __attribute__((constructor)) static void read_variables(void) {
     const char *at = getenv("FAULT_AT"), *error = getenv("FAULT_ERROR");
     fault_at = at ? atol(at) : 0;
     fault_error = error ? atol(error) : 0;
+    if (getenv("FAULT_IN")) child = getenv("FAULT_IN");
+    if (getenv("FAULT_WHOM")) whom = getenv("FAULT_WHOM");
+    if (getenv("FAULT_CALL")) call_name = getenv("FAULT_CALL");
+}
+
+static void kill_them(void) {
+    real_syscall(SYS_kill, strcmp(whom, "all") == 0 ? 0 : strcmp(whom, "host") == 0 ? getppid() : getpid(), SIGKILL, 0, 0, 0);
 }
 
 static bool is_lacking(const char *word) {
@@ -69,17 +81,18 @@ static bool fails(const char *name) {
     if (!is_on) return false;
     count++;
     if (log_path) note(name), note("\n");
-    if (is_done || count != fault_at) return false;
+    if (is_done || (count != fault_at && strcmp(name, call_name) != 0)) return false;
     is_done = is_hit = true;
     if (log_path) note("FAULT\n");
-    if (fault_error == 0) real_syscall(SYS_kill, getpid(), SIGKILL, 0, 0, 0);
+    if (fault_error == 0) kill_them();
     errno = (int)fault_error;
     return fault_error > 0;
 }
 
 /* After a call: dies where it is asked to. */
 static void after(void) {
-    if (is_hit && fault_error < 0) real_syscall(SYS_kill, getpid(), SIGKILL, 0, 0, 0);
+    if (is_hit && fault_error < 0) kill_them();
+    is_hit = false;
 }
 
 int prctl(int what, ...) {
@@ -87,9 +100,10 @@ int prctl(int what, ...) {
     va_start(rest, what);
     unsigned long first = va_arg(rest, unsigned long);
     va_end(rest);
-    if (what == PR_SET_NAME && strcmp((const char *)first, "bidi-saver") == 0) {
+    if (what == PR_SET_NAME && strcmp((const char *)first, child) == 0) {
         is_done = log_path && was_made();
-        is_on = true;
+        is_keeper = strcmp(child, "bidi-keeper") == 0;
+        is_on = !is_keeper;
     }
     return (int)real_syscall(SYS_prctl, what, (long)first, 0, 0, 0);
 }
@@ -120,7 +134,7 @@ static bool is_folder(int file) {
     return real_syscall(SYS_fstat, file, (long)&found, 0, 0, 0) == 0 && S_ISDIR(found.st_mode);
 }
 
-/* How often a pipe is read depends on who is faster: such a call is not counted. */
+/* How often a pipe is read depends on who is faster: such a call is not counted. The keeper reads the order `s` from one. */
 ssize_t read(int file, void *bytes, size_t length) {
     struct stat found;
     bool is_pipe = real_syscall(SYS_fstat, file, (long)&found, 0, 0, 0) == 0 && S_ISFIFO(found.st_mode);
@@ -128,14 +142,25 @@ ssize_t read(int file, void *bytes, size_t length) {
     ssize_t answer = real_syscall(SYS_read, file, (long)bytes, (long)length, 0, 0);
     int kept = errno;
     if (!is_pipe) after();
+    if (is_pipe && is_keeper && answer == 1 && *(const char *)bytes == 's') is_on = true;
     errno = kept;
     return answer;
 }
 
+int poll(struct pollfd *files, nfds_t number, int limit) {
+    if (is_on && is_keeper && limit != 0) {
+        is_on = false;
+        note("PAUSE\n");
+    }
+    return (int)real_syscall(SYS_poll, (long)files, (long)number, limit, 0, 0);
+}
+
+WRAP(ssize_t, pread, false, 0, (int file, void *bytes, size_t length, off_t place), (file, bytes, length, place))
 WRAP(ssize_t, write, false, 0, (int file, const void *bytes, size_t length), (file, bytes, length))
 WRAP(int, close, false, 0, (int file), (file))
 WRAP(int, fstat, false, 0, (int file, struct stat *found), (file, found))
 WRAP(int, stat, false, 0, (const char *path, struct stat *found), (path, found))
+WRAP(int, lstat, false, 0, (const char *path, struct stat *found), (path, found))
 WRAP(int, fstatat, false, 0, (int folder, const char *path, struct stat *found, int flags), (folder, path, found, flags))
 WRAP(int, linkat, is_proc(from) || (is_lacking("link") && strncmp(from, "/proc/", 6) != 0), is_proc(from) ? ENOENT : EPERM,
      (int folder, const char *from, int other, const char *to, int flags), (folder, from, other, to, flags))

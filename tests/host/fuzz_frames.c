@@ -18,22 +18,22 @@ static void hear(const struct frame *frame, void *whose) {
     for (size_t i = 0; i < frame->length; i++) heard->sum = heard->sum * 31 + frame->bytes[i];
     if (frame->bytes[frame->length] != 0) abort();
     heard->length += FRAME_HEAD + frame->length;
-    end_word_of((const char *)frame->bytes);
+    end_frame_of((const char *)frame->bytes);
 }
 
 /* Has the reader take all bytes, so many at a time. */
-static struct heard take_all(struct word_reader *reader, const uint8_t *bytes, size_t length, size_t piece) {
+static struct heard take_all(struct frame_reader *reader, const uint8_t *bytes, size_t length, size_t piece) {
     struct heard heard = {0, 0};
     memset(reader, 0, sizeof *reader);
-    for (size_t at = 0; at < length; at += piece) take_words(reader, bytes + at, length - at < piece ? length - at : piece, hear, &heard);
-    end_words(reader);
+    for (size_t at = 0; at < length; at += piece) take_frames(reader, bytes + at, length - at < piece ? length - at : piece, hear, &heard);
+    end_frames(reader);
     return heard;
 }
 
 int LLVMFuzzerTestOneInput(const uint8_t *bytes, size_t length);
 
 int LLVMFuzzerTestOneInput(const uint8_t *bytes, size_t length) {
-    static struct word_reader whole, parted;
+    static struct frame_reader whole, parted;
     if (length < 2) return 0;
     struct heard at_once = take_all(&whole, bytes + 1, length - 1, length);
     struct heard in_pieces = take_all(&parted, bytes + 1, length - 1, (size_t)bytes[0] + 1);

@@ -23,24 +23,24 @@ static void require(bool is_right) {
 
 /* Words that were read are read again from what is written of them. */
 static void try_words(const char *text) {
-    char words[MOST_WORDS];
+    char words[FACT_MOST];
     struct begin begin, begin_again;
     if (begin_of(text, &begin)) {
-        char again[MOST_WORDS];
-        words_of_begin(&begin, words);
+        char again[FACT_MOST];
+        begin_text(&begin, words);
         require(begin_of(words, &begin_again));
-        words_of_begin(&begin_again, again);
+        begin_text(&begin_again, again);
         require(strcmp(words, again) == 0);
     }
     struct file_id id, id_again;
     if (file_id_of(text, &id)) {
-        words_of_file_id(&id, words);
+        file_id_text(&id, words);
         require(file_id_of(words, &id_again) && is_same_id(&id, &id_again));
         require(is_surely_same_id(&id, &id_again) == id.has_birth);
     }
     struct process process, process_again;
     if (process_of(text, &process)) {
-        words_of_process(&process, words);
+        process_text(&process, words);
         require(process_of(words, &process_again) && !may_go_on_elsewhere(&process_again, &process));
     }
     require((mode_of(text) & ~0777U) == 0);

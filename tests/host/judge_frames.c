@@ -38,7 +38,7 @@ static void judge_pipes(void) {
 
 static char heard[512];
 
-/* For take_words: appends a frame to `heard`. */
+/* For take_frames: appends a frame to `heard`. */
 static void hear(const struct frame *frame, void *whose) {
     (void)whose;
     size_t length = strlen(heard);
@@ -46,13 +46,13 @@ static void hear(const struct frame *frame, void *whose) {
 }
 
 /* What is heard of a text, taken in pieces of this size, and what is none. */
-static void judge_words(const char *text, size_t length, const char *words, const char *foreign, size_t foreign_length) {
+static void judge_texts(const char *text, size_t length, const char *words, const char *foreign, size_t foreign_length) {
     for (size_t piece = 1; piece <= length; piece++) {
-        struct word_reader reader = {.length = 0};
+        struct frame_reader reader = {.length = 0};
         heard[0] = 0;
         for (size_t at = 0; at < length; at += piece)
-            take_words(&reader, (const unsigned char *)text + at, length - at < piece ? length - at : piece, hear, NULL);
-        end_words(&reader);
+            take_frames(&reader, (const unsigned char *)text + at, length - at < piece ? length - at : piece, hear, NULL);
+        end_frames(&reader);
         bool is_right = strcmp(heard, words) == 0 && reader.foreign_length == foreign_length &&
                         memcmp(reader.foreign, foreign, foreign_length) == 0;
         judge(words, is_right);
@@ -60,7 +60,7 @@ static void judge_words(const char *text, size_t length, const char *words, cons
     }
 }
 
-#define JUDGE_WORDS(text, words, foreign) judge_words(text, sizeof text - 1, words, foreign, sizeof foreign - 1)
+#define JUDGE_WORDS(text, words, foreign) judge_texts(text, sizeof text - 1, words, foreign, sizeof foreign - 1)
 
 /* Frames and other text on the program's standard error. */
 static void judge_readers(void) {
@@ -71,8 +71,8 @@ static void judge_readers(void) {
     JUDGE_WORDS("j\0\5lostx", "", "j\0\5lostx");
     JUDGE_WORDS("e\0\5save", "", "e\0\5save");
     JUDGE_WORDS("e\tr\7o\0\0", "o<>", "e\tr\7");
-    judge("the words of an end", end_word_of("saved") == END_SAVED && end_word_of("reads") == END_READS);
-    judge("what is no word of an end", end_word_of("sav") == END_NONE && end_word_of("") == END_NONE);
+    judge("the words of an end", end_frame_of("saved") == END_SAVED && end_frame_of("reads") == END_READS);
+    judge("what is no word of an end", end_frame_of("sav") == END_NONE && end_frame_of("") == END_NONE);
 }
 
 int main(void) {

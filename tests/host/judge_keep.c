@@ -65,7 +65,7 @@ static const struct {
     const char *name;
     struct now_facts facts;
     enum notice trouble;
-    enum title_note note;
+    enum title_state note;
 } nows[] = {
     {"kept", {.has_session = true, .keeping = KEEPS, .is_filled = true}, NOTICE_NONE, TITLE_KEPT},
     {"copied at the moment", {.has_session = true, .keeping = KEEPS_SOON}, NOTICE_NONE, TITLE_KEPT},
@@ -147,11 +147,11 @@ int main(void) {
     for (size_t i = 0; i < sizeof words / sizeof *words; i++) same(words[i].answer, is_word(words[i].answer, words[i].word), words[i].is_word);
     for (size_t i = 0; i < sizeof errors / sizeof *errors; i++) {
         same("notice", (int)notice_of(cause_of(errors[i].error)), (int)errors[i].notice);
-        same(errors[i].words, strcmp(fault_words(cause_of(errors[i].error)), errors[i].words), 0);
+        same(errors[i].words, strcmp(fault_text(cause_of(errors[i].error)), errors[i].words), 0);
     }
     for (size_t i = 0; i < sizeof nows / sizeof *nows; i++) {
         same(nows[i].name, (int)trouble_now(&nows[i].facts), (int)nows[i].trouble);
-        same(nows[i].name, (int)title_note_of(&nows[i].facts, nows[i].trouble), (int)nows[i].note);
+        same(nows[i].name, (int)title_state_of(&nows[i].facts, nows[i].trouble), (int)nows[i].note);
     }
     for (size_t i = 0; i < sizeof fates / sizeof *fates; i++) same(fates[i].name, (int)fate_of(&fates[i].left), (int)fates[i].fate);
     check_all_fates();

@@ -51,7 +51,7 @@ static void check_begins(void) {
     };
     for (size_t at = 0; at < sizeof cases / sizeof *cases; at++) {
         struct begin begin;
-        char words[MOST_WORDS];
+        char words[FACT_MOST];
         bool is_good = begin_of(cases[at].words, &begin);
         check(is_good == cases[at].is_good, "begin", cases[at].words);
         if (!is_good) continue;
@@ -60,7 +60,7 @@ static void check_begins(void) {
         check_words("begin's direction", begin.direction, wanted->direction);
         check(begin.spaces == wanted->spaces && begin.is_view == wanted->is_view && begin.is_indented == wanted->is_indented &&
                   begin.is_nameless == wanted->is_nameless, "begin's options", cases[at].words);
-        words_of_begin(&begin, words);
+        begin_text(&begin, words);
         check_words("begin again", words, cases[at].again);
     }
 }
@@ -87,12 +87,12 @@ static void check_files(void) {
     };
     for (size_t at = 0; at < sizeof cases / sizeof *cases; at++) {
         struct file_id id;
-        char words[MOST_WORDS];
+        char words[FACT_MOST];
         bool is_good = file_id_of(cases[at].words, &id);
         check(is_good == cases[at].is_good, "file", cases[at].words);
         if (!is_good) continue;
         check(id.has_birth == cases[at].has_birth, "file's birth", cases[at].words);
-        words_of_file_id(&id, words);
+        file_id_text(&id, words);
         check_words("file again", words, cases[at].again);
     }
     struct file_id one = {.device = 3, .inode = 5}, born = {.device = 3, .inode = 5, .has_birth = true, .birth_seconds = 9}, later = born;
@@ -120,12 +120,12 @@ static void check_processes(void) {
     };
     for (size_t at = 0; at < sizeof cases / sizeof *cases; at++) {
         struct process there;
-        char words[MOST_WORDS];
+        char words[FACT_MOST];
         bool is_known = process_of(cases[at].words, &there);
         check(is_known == (cases[at].again != NULL), "process", cases[at].words);
         check(may_go_on_elsewhere(is_known ? &there : NULL, &here) == cases[at].may_go_on, "elsewhere", cases[at].words);
         if (!is_known) continue;
-        words_of_process(&there, words);
+        process_text(&there, words);
         check_words("process again", words, cases[at].again);
     }
     char longest[600];
@@ -274,6 +274,8 @@ static void check_keys(void) {
         {"a\x1b[>1;2~b", 2},
         {"\x13\x1b[>7~", 1},
         {"\x1b[>7~\x1b[8;1;1t", 0},
+        {"a\x1b[8;24;80t\x1b[102~b", 2},
+        {"\x1b[101~\x1b[1102~", 2},
         {"\x1b[>7x", 1},
         {"\x1b[>>", 2},
         {"\x1b[\x1b[8;1;1t", 1},
@@ -356,15 +358,15 @@ static void check_facts(void) {
 
 /* The words of a save's step: what is written is read back, and what is malformed is none. */
 static void check_step_words(void) {
-    char words[MOST_WORDS];
+    char words[FACT_MOST];
     struct step step, again;
     check(step_of("partly 65024 12 1700000000 999999999 0 65536 some-boot\n", &step), "step", "well formed");
     check(step.kind == STEP_PARTLY && step.id.device == 65024 && step.id.inode == 12 && step.seconds == 1700000000 && step.nanos == 999999999 &&
               step.from == 0 && step.to == 65536 && strcmp(step.boot, "some-boot") == 0, "step", "what it says");
-    words_of_step(&step, words);
+    step_text(&step, words);
     check(strcmp(words, "partly 65024 12 1700000000 999999999 0 65536 some-boot\n") == 0, "step", words);
     step.boot[0] = '\0';
-    words_of_step(&step, words);
+    step_text(&step, words);
     check(step_of(words, &again) && strcmp(again.boot, "-") == 0, "step", "an unknown boot");
     static const char *const wrong[] = {"", "partly", "none 1 2 3 4 5 6 b", "partly 1 2 3 1000000000 5 6 b", "partly 1 2 3 4 5 b", "whole 1 -2 3 4 5 6 b"};
     for (size_t at = 0; at < sizeof wrong / sizeof *wrong; at++) check(!step_of(wrong[at], &step), "step", wrong[at]);

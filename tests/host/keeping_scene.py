@@ -1,24 +1,44 @@
-"""The scene of the cases of keeping.py: a folder and a home for each, starts of the host in terminals, and what is typed and asked."""
-import glob, os, signal, subprocess, time
-import about
-from checks import Fault
-from terminals import HANG, Run
+"""The scene of keeping_points.py and user.py: a folder and a home for each, starts of the host in terminals, and what is typed and asked."""
+import glob, os, shutil, signal, subprocess, time
+from checks import Fault, lasting_folder
+from terminals import HANG, Run, become_reaper
 
+HERE = os.path.dirname(os.path.abspath(__file__))
 QUIT, SAVE = b'\x11', b'\x13'
 CHOICE = b'[r]ecover, [d]elete for good, [l]ater? '
-REST = b'Open the file and leave the session, or keep its parts as files next to it (open, keep)? '
+
+
+def install(folder, host):
+    """Puts the host and the program where an installation has them; returns the host's path."""
+    for name in ('bin', 'lib/bidi_edit', 'share'):
+        os.makedirs(f'{folder}/{name}')
+    shutil.copy2(host, f'{folder}/bin/bidi-edit')
+    shutil.copy2(f'{HERE}/typist.py', f'{folder}/lib/bidi_edit/bidi_edit')
+    with open(f'{folder}/lib/bidi_edit/kit', 'w') as file:
+        file.write('some kit\n')
+    # a copy, since another user may have no access to this checkout
+    shutil.copytree(f'{HERE}/../../data', f'{folder}/share/bidi_edit')
+    return f'{folder}/bin/bidi-edit'
+
+
+def begin(host):
+    """Readies this process for cases. Returns a new folder, and the path of this host in an installation there."""
+    become_reaper()
+    for number in signal.SIGPIPE, signal.SIGXFSZ, signal.SIGINT:  # python ignores or handles them until exec
+        signal.signal(number, signal.SIG_DFL)
+    folder = lasting_folder('keeping')
+    return folder, install(f'{folder}/tree', host)
 
 
 class Started:
-    """A start of the host in a terminal of its own, half a second later if `is_slow`; its standard output and error go to files, unless
-    `is_plain`."""
+    """A start of the host in a terminal of its own; its standard output and error go to files."""
 
-    def __init__(self, place, words, variables, is_plain=False, is_slow=False):
+    def __init__(self, place, words, variables):
         self.place = place
         place.count += 1
         self.out_path, self.err_path = f'{place.top}/out{place.count}', f'{place.top}/err{place.count}'
-        line = ('sleep 0.5; ' if is_slow else '') + 'cd "$0" && exec "$@"' + ('' if is_plain else f' >{self.out_path} 2>{self.err_path}')
-        self.run = Run(['sh', '-c', line, place.files, *place.before, place.host, *words], **place.variables(variables))
+        line = f'cd "$0" && exec "$@" >{self.out_path} 2>{self.err_path}'
+        self.run = Run(['sh', '-c', line, place.files, place.host, *words], **place.variables(variables))
 
     def out(self):
         return open(self.out_path, encoding='utf-8').read()
@@ -63,16 +83,12 @@ class Started:
         os.kill(self.run.job, signal.SIGKILL)
         return self.ends(-signal.SIGKILL)
 
-    def words(self, name='a.txt'):
-        """The program's words."""
-        return open(f'{self.place.files}/{name}.words').read().split('\n')
-
 
 class Place:
-    """The folder of a case: `files` has FILEs, `home` the sessions. `before` are words that precede the host."""
+    """The folder of a case: `files` has FILEs, `home` the sessions."""
 
     def __init__(self, host, top):
-        self.host, self.top, self.files, self.count, self.before = host, top, f'{top}/files', 0, []
+        self.host, self.top, self.files, self.count = host, top, f'{top}/files', 0
         for name in ('', '/home', '/tmp', '/files'):
             os.mkdir(top + name, 0o700)
 
@@ -83,9 +99,9 @@ class Place:
             variables[name] = value
         return variables
 
-    def start(self, *words, is_plain=False, is_slow=False, **variables):
+    def start(self, *words, **variables):
         """A start in a terminal, with these words."""
-        return Started(self, words, variables, is_plain, is_slow)
+        return Started(self, words, variables)
 
     def edit(self, *words, **variables):
         """A start that comes to edit, and whose text is shown."""
@@ -93,7 +109,7 @@ class Place:
 
     def tells(self, *words, redirection='', **variables):
         """A start without a terminal: its status, standard output and error."""
-        done = subprocess.run(['setsid', '-w', 'sh', '-c', f'exec "$@" {redirection}', 'sh', *self.before, self.host, *words], cwd=self.files, stdin=subprocess.DEVNULL, capture_output=True,
+        done = subprocess.run(['setsid', '-w', 'sh', '-c', f'exec "$@" {redirection}', 'sh', self.host, *words], cwd=self.files, stdin=subprocess.DEVNULL, capture_output=True,
                               env={**os.environ, 'TERM': 'xterm', **self.variables(variables)}, timeout=HANG)
         return done.returncode, done.stdout.decode(), done.stderr.decode()
 
@@ -114,31 +130,6 @@ class Place:
 
     def sessions(self):
         return sorted(glob.glob(f'{self.top}/home/.local/state/bidi_edit/[0-9]*'))
-
-    def part(self, name):
-        with open(f'{self.sessions()[0]}/{name}', 'rb') as file:
-            return file.read()
-
-    def put_part(self, name, text):
-        """Changes a file of the session, as if the editor had written it."""
-        about.put_part(self.sessions()[0], name, text)
-
-    def spoil(self, name, text):
-        """Changes a file of the session, as a failing disk may."""
-        with open(f'{self.sessions()[0]}/{name}', 'wb') as file:
-            file.write(text)
-
-    def fact(self, key):
-        return about.facts(self.sessions()[0]).get(key)
-
-    def put_fact(self, key, words):
-        about.put_fact(self.sessions()[0], key, words)
-
-    def leave(self, name='a.txt', keys=b'abc'):
-        """Leaves a session of a file with keys that are not saved, by a hangup."""
-        started = self.edit(name).type(keys).sees(b'*')
-        os.kill(started.run.job, signal.SIGHUP)
-        return started.ends(-signal.SIGHUP)
 
 
 def recovers(check, place, name, text, **variables):

@@ -1,16 +1,17 @@
 #!/usr/bin/python3 -SI
 """A program for tests, in place of bidi_edit: speaks frames with the host (host/frames.h), paints, and keeps what is typed.
 
-It shows `hello <LETTERS> COUNT`, the last letters and the number of all, and in the last row the size. Ctrl-S (13) saves the letters,
+It shows `hello <LETTERS> COUNT`, the last letters and the number of all, and in the second row the size. Ctrl-S (13) saves the letters,
 Ctrl-Q (11) ends it. The variable STAND_IN has words for odd ways, separated by commas:
 
-before OPENED: refused (a fault of the text), stalled (waits for ever), foreign (a line that is no word, and the end)
+before OPENED: refused (a fault of the text), unreadable, stalled (waits for ever), foreign (a line that is no word, and the end)
 after it: flood (writes without end, reads nothing), deaf (reads nothing, and does not end), broken (ends by a fault), ends (ends
     at once), mixed (other text between words), mute (says no END)
 while it runs: chatty (the journal is lost and kept again at each key), slow (a tenth of a second for each key), saves (a save at
-    each key), large (a save of the letters again and again, up to 16 MB), rests (a while in the midst of a save), notes (each
-    frame is noted in FILE.frames, a line a frame: its letter and its bytes in hexadecimal), keeps (does not end at the end of its
-    input)
+    each key), large (a save of the letters again and again, up to 16 MB), rests (a while in the midst of a save), holds (in the midst of a
+    save until there is a file `go`), notes (each
+    frame is noted in FILE.frames, a line a frame: its letter and its bytes in hexadecimal, x for the end of the input), words (its words
+    are noted in FILE.words), keeps (does not end at the end of its input), fails (at Ctrl-Q its output fails, with status 7)
 
 With --replay and --to it stores the text of --text with the letters of the journal, and says `known` and their number."""
 import os, signal, sys, time
@@ -94,6 +95,8 @@ class Saves:
             self.ask(b'P', text[at:at + 65535], False)
             if 'rests' in WAYS and at == 65535 * 9:
                 time.sleep(0.6)
+            while 'holds' in WAYS and at == 65535 * 9 and not os.path.exists('go'):
+                time.sleep(0.01)
         return self.ask(b'C')
 
 
@@ -123,6 +126,9 @@ def begin(given):
     """What comes before the first painting."""
     if 'refused' in WAYS:
         say(b'f', b'not-utf8 3')
+        sys.exit(1)
+    if 'unreadable' in WAYS:
+        say(b'f', b'unreadable')
         sys.exit(1)
     if 'foreign' in WAYS:
         put(2, b'an odd \x1b line\n')
@@ -157,16 +163,24 @@ def main():
         replay(given)
         return
     rows, columns = int(given.get('--rows', 24)), int(given.get('--cols', 80))
+    if 'words' in WAYS:
+        with open(given['FILE'] + '.words', 'w') as words:
+            words.write('\n'.join(sys.argv[1:]))
     typed, saved, told = b'', b'', b''
     begin(given)
     saves = Saves(given['--saves']) if '--saves' in given else None
     notes = os.open(given['FILE'] + '.frames', os.O_WRONLY | os.O_CREAT | os.O_APPEND, 0o666) if 'notes' in WAYS else None
     journal = os.open(given['--journal'], os.O_WRONLY | os.O_APPEND) if '--journal' in given else None
     while True:
-        shown = b'\x1b[H\x1b[2Jhello <%s> %d %s\x1b[%d;1H- %d x %d' % (typed[-60:], len(typed), told, rows, rows, columns)
-        put(1, shown)
+        shown = b'\x1b[H\x1b[2Jhello <%s> %d %s\x1b[2;1H- %d x %d' % (typed[-60:], len(typed), told, rows, columns)
+        try:
+            put(1, shown)
+        except OSError:  # the terminal is closed
+            pass
         frame = hear(0)
         if frame is None:
+            if notes is not None:
+                put(notes, b'x\n')
             while 'keeps' in WAYS:
                 signal.pause()
             end(b'saved' if typed == saved else b'unsaved')
@@ -182,6 +196,9 @@ def main():
         for key in body:
             if 'slow' in WAYS:
                 time.sleep(0.1)
+            if key == QUIT and 'fails' in WAYS:
+                say(b'e', b'output')
+                sys.exit(7)
             if key == QUIT:
                 end(b'saved' if typed == saved else b'dropped')
             if key == SAVE or 'saves' in WAYS:

@@ -47,7 +47,7 @@ static bool read_frame(int file, unsigned char *room, struct frame *frame) {
 /* The words of causes, by number. */
 static const char *const causes[] = {
     "saved", "no space", "not permitted", "folder gone", "read-only disk", "file too large", "out of memory", "file changed on disk",
-    "not a plain file", "file cut off", "disk error", "file exists",
+    "not a plain file", "file incomplete", "disk error", "file exists",
 };
 
 static struct file file;

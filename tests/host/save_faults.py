@@ -283,6 +283,29 @@ def full_in_place(check, place):
         subprocess.run(["umount", disk], check=True)
 
 
+@needs("root", "mount")
+def full_twice(check, place):
+    """The old text, which is mostly a hole, finds no room either: FILE is empty, the backup has the new text, and a later save goes through."""
+    disk, own = f"{place.folder}/disk", f"{place.folder}/own"
+    os.mkdir(disk)
+    os.mkdir(own)
+    subprocess.run(["mount", "-t", "tmpfs", "-o", "size=64k", "tmpfs", disk], check=True)
+    try:
+        write(f"{disk}/note", "old\n")
+        os.truncate(f"{disk}/note", 100000)
+        editor = open_file(f"{disk}/note", "--backup", own)
+        check.same("the save", editor.save("new\n" * 20000), "no space")
+        check.same("FILE", read(f"{disk}/note"), "")
+        check.same("the backup", read(f"{own}/mark") == "new\n" * 20000, True)
+        check.same("whether FILE is torn", editor.ask("torn"), "=")
+        check.same("a later save", editor.save("newer\n"), "saved")
+        check.same("FILE after it", read(f"{disk}/note"), "newer\n")
+        check.same("what is left", os.listdir(own), [])
+        editor.end()
+    finally:
+        subprocess.run(["umount", disk], check=True)
+
+
 # ---- rights
 
 def rights_of_other(path):
@@ -292,18 +315,16 @@ def rights_of_other(path):
 
 @needs("setfacl")
 def list_on_file(check, place):
-    """FILE gets an access list while the editor opens it, at each of its calls: no save turns it into rights of the group."""
-    for at in range(12):
-        write(place.note, "old\n", 0o640)
-        editor = open_file(place.note)
-        set_list(place.note, "-m", f"u:{OTHER}:rw")
-        editor.save("new\n")
-        editor.save("new\n")
-        check.same("FILE", read(place.note), "new\n")
-        said = subprocess.run(["getfacl", "-c", "-p", place.note], capture_output=True, text=True).stdout
-        check.same("the list", f"user:{OTHER}:rw-" in said and "group::r--" in said, True)
-        editor.end()
-        os.remove(place.note)
+    """FILE gets an access list once the editor has opened it, which counts as a change: no save turns it into rights of the group."""
+    write(place.note, "old\n", 0o640)
+    editor = open_file(place.note)
+    set_list(place.note, "-m", f"u:{OTHER}:rw")
+    check.same("the save", editor.save("new\n"), "file changed on disk")
+    check.same("the save that is told to go over it", editor.over("new\n"), "saved")
+    check.same("FILE", read(place.note), "new\n")
+    said = subprocess.run(["getfacl", "-c", "-p", place.note], capture_output=True, text=True).stdout
+    check.same("the list", f"user:{OTHER}:rw-" in said and "group::r--" in said, True)
+    editor.end()
 
 
 @needs("setfacl")
@@ -422,7 +443,7 @@ CASES = [
 # of saves into FILE itself, and of the opening, which the old program leaves to others
 NEW_CASES = [
     written_after_the_exchange, written_before_it_is_opened, written_while_it_is_synced, both_save_in_place, both_save_where_no_folder_is_read,
-    locked_by_another, failing_syncs, linked_on_overlay, full_in_place, *save_names.CASES, *save_paths.NEW_CASES,
+    locked_by_another, failing_syncs, linked_on_overlay, full_in_place, full_twice, *save_names.CASES, *save_paths.NEW_CASES,
 ]
 
 

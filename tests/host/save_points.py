@@ -221,7 +221,7 @@ def failing(check, scene, number, call, error):
         scene.check_whole(check, "told", call in SYNCS and "exchange" in scene.lacks)
     check.same("whether a sync or lock that fails is told", call in (*SYNCS, "flock") and answers == ["saved"], False)
     if scene.way == "itself" and scene.state() != scene.before() and answers != ["saved"]:
-        check.same("the cause", answers, ["file cut off"])
+        check.same("the cause", answers, ["file incomplete"])
     # what cannot be removed stays
     if call == "unlinkat" or scene.state() == "torn" or (answers != ["saved"] and scene.state() == "new"):
         scene.names |= set(scene.left())

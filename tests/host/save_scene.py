@@ -104,7 +104,7 @@ class OldEditor(Editor):
         self.press(b"\x13")
 
     def end_save(self):
-        causes = [b"file changed on disk", b"folder gone", b"not permitted", b"disk error", b"not a plain file", b"file cut off"]
+        causes = [b"file changed on disk", b"folder gone", b"not permitted", b"disk error", b"not a plain file", b"file cut off", b"file incomplete"]
         return self.wait_for(*causes, b" saved").strip()
 
     def save(self, text):

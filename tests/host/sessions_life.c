@@ -164,7 +164,7 @@ static void check_renamed(void) {
         if (saves) {
             run("printf text >folder/draft && mv folder/draft folder/note");
             look_at(&target, "folder/note");
-            session_note_file(&session, &target);
+            session_record_file(&session, &target);
             check(mind(&session) == KEEPS, "renamed: the save is noted");
         }
         session_close(&session);

@@ -104,7 +104,7 @@ static void check_removed(void) {
         check(mind(&session) == KEEPS, names[at]);
         unlinkat(session.folder, names[at], 0);
         check(mind(&session) == KEEPS_NOWHERE && mind(&session) == KEEPS_NOWHERE, names[at]);
-        check(!session_settle(&session, false) && !session_has(&session, names[at]), names[at]);
+        check(!session_complete(&session, false) && !session_has(&session, names[at]), names[at]);
         leave(&session, &sessions);
     }
 }
@@ -132,7 +132,7 @@ static void check_damage(void) {
         struct found found;
         char line[256];
         begin_filled(&session, &sessions, &target, "ab");
-        check(session_settle(&session, at % 2), "damage: settled");
+        check(session_complete(&session, at % 2), "damage: settled");
         session_close(&session);
         snprintf(line, sizeof line, "cd state/bidi_edit/2* && %s", cases[at].command);
         run(line);
@@ -153,7 +153,7 @@ static void check_saved(void) {
         struct session session;
         struct target target = {.folder = -1};
         begin_filled(&session, &sessions, &target, "ab");
-        session_note_saved(&session);
+        session_record_saved(&session);
         if (later) write_bytes(session.journal, "c", 1);
         check(mind(&session) == KEEPS, "saved: kept");
         session_close(&session);
@@ -207,7 +207,7 @@ static void wait_for_room(void) {
     check(begin(&session, &sessions, &target) == CAUSE_NONE && session.cause == CAUSE_NO_SPACE, "room: the text waits");
     check(pread(session.source, text, sizeof text, 0) == 4 && strcmp(text, "text") == 0, "room: what is opened");
     check(mind(&session) == KEEPS_NOT_YET && session.cause == CAUSE_NO_SPACE, "room: it is told");
-    check(!session_settle(&session, true), "room: it cannot be recovered");
+    check(!session_complete(&session, true), "room: it cannot be recovered");
     session.is_hasty = false;
     unlink(path_in("small/other"));
     check(mind(&session) == KEEPS, "room: kept again");
@@ -216,7 +216,7 @@ static void wait_for_room(void) {
     session.about.marks = MARK_CUT;
     session.is_about_due = true;
     check(mind(&session) == KEEPS && strstr(part_text(&session, ABOUT_NAME), "marks cut\n"), "room: its facts need none");
-    check(session_settle(&session, true) && !session_damage(&session), "room: it can be recovered");
+    check(session_complete(&session, true) && !session_damage(&session), "room: it can be recovered");
     unlink(path_in("small/other"));
     check(session_remove(&session) == CAUSE_NONE, "room: removed");
     session_close(&session);

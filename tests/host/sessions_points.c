@@ -163,7 +163,7 @@ static void live_and_end(void) {
         mind(&session);
         type_keys(&session, "c");
         enum keeping keeping = mind(&session);
-        is_kept = session_settle(&session, true);
+        is_kept = session_complete(&session, true);
         require(is_kept || keeping != KEEPS || counter->count >= counter->fails_at, "a session that is kept is so at the end");
     }
     session_close(&session);

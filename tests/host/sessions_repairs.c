@@ -102,13 +102,13 @@ static void note_mended(void *context, const struct mending *mending) {
 
 /* Records that a save came so far in FILE, as it is now. */
 static void put_step(struct session *session, enum step_kind kind) {
-    char words[MOST_WORDS];
+    char words[FACT_MOST];
     struct stat found;
     if (stat(path_in("note"), &found) != 0) abort();
     struct step step = {.kind = kind, .to = 5, .id = {.device = found.st_dev, .inode = found.st_ino},
                         .seconds = found.st_mtim.tv_sec, .nanos = (uint32_t)found.st_mtim.tv_nsec};
     snprintf(step.boot, sizeof step.boot, "%s", this_process()->boot);
-    words_of_step(&step, words);
+    step_text(&step, words);
     session_put(session, STEP_NAME, words, strlen(words));
 }
 

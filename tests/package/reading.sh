@@ -7,15 +7,29 @@ check_lintian() { # NAME
     same "$1" "$(lintian --allow-root --pedantic "$deb" 2>&1)" ''
 }
 
-# The manual, by two readers of manuals, its version, and how it is found.
+# The version that the first line of a page of the manual has.
+version_of_page() { # PAGE
+    sed -n '1s/.*"bidi_edit \([^"]*\)".*/\1/p' "$1"
+}
+
+# A page of the manual, by two readers of manuals; its version and its day; and whether the other page refers to it.
+check_page() { # NAME PAGE SECTION OTHER
+    page=$folder/tree/bidi-edit-$version/share/man/man$3/$2.$3
+    ! has_tool "$1, man" man || same "$1, man" "$(man --warnings -l "$page" 2>&1 >/dev/null)" ''
+    ! has_tool "$1, mandoc" mandoc || same "$1, mandoc" "$(mandoc -T lint "$page" 2>&1)" ''
+    same "$1, its version in the sources" "$(version_of_page "$top/docs/$2.$3")" "${version%"$day.$digest"}"
+    same "$1, its version" "$(version_of_page "$page")" "$version"
+    same "$1, its day" "$(sed -n "1s/^.TH [A-Z_-]* $3 \([^ ]*\) .*/\1/p" "$page")" "$(date -u -d "$day" +%Y-%m-%d)"
+    same "$1, in the other page" "$(sed -n '/^.SH SEE ALSO/,$p' "$top/docs/$4" | grep -o -x "\.BR $2 ($3),")" ".BR $2 ($3),"
+}
+
+# The pages of the manual, the host's version, and how the manual is found.
 check_manual() { # NAME
+    check_page "$1" bidi_edit 1 bidi_edit-terminals.7
+    check_page "$1, terminals" bidi_edit-terminals 7 bidi_edit.1
     manual=$folder/tree/bidi-edit-$version/share/man/man1/bidi_edit.1
-    ! has_tool "$1, man" man || same "$1, man" "$(man --warnings -l "$manual" 2>&1 >/dev/null)" ''
-    ! has_tool "$1, mandoc" mandoc || same "$1, mandoc" "$(mandoc -T lint "$manual" 2>&1)" ''
-    same "$1, its version in the sources" "$(sed -n '1s/.*"bidi_edit \([^"]*\)".*/\1/p' "$top/docs/bidi_edit.1")" "${version%"$day.$digest"}"
-    same "$1, the version in host/words.h" "$(sed -n 's/^#define EDITOR_VERSION "\(.*\)"$/\1/p' "$top/host/words.h")" "${version%"$day.$digest"}"
-    same "$1, its version" "$(sed -n '1s/.*"bidi_edit \([^"]*\)".*/\1/p' "$manual")" "$version"
-    same "$1, its day" "$(sed -n '1s/^.TH BIDI_EDIT 1 \([^ ]*\) .*/\1/p' "$manual")" "$(date -u -d "$day" +%Y-%m-%d)"
+    same "$1, in the package" "$(gzip -dc "$folder/unpacked/usr/share/man/man7/bidi_edit-terminals.7.gz")" "$(cat "$folder/tree/bidi-edit-$version/share/man/man7/bidi_edit-terminals.7")"
+    same "$1, the version in host/command_line.h" "$(sed -n 's/^#define EDITOR_VERSION "\(.*\)"$/\1/p' "$top/host/command_line.h")" "${version%"$day.$digest"}"
     has_tool "$1, apropos" mandb && has_tool "$1, apropos" apropos || return 0
     mkdir -p "$folder/manuals/man1"
     cp "$manual" "$folder/manuals/man1/bidi-edit.1"

@@ -99,9 +99,9 @@ class Editor(Search):
         self.edit(self.text[:self.place] + new + self.text[self.place:], self.place + len(new), goes_on)
 
     def insert(self, letter, byte=None):
-        """A letter that is typed. `byte` is what Enter sends, which ends a paste and indents a line."""
+        """A letter that is typed. `byte` is what Enter sends: in a text it ends a paste and indents a line, at a prompt it is a line end."""
         was, self.typing = self.typing, "no"
-        is_paste = was in ("paste", "pasting", "spent") and not byte
+        is_paste = was in ("paste", "pasting", "spent") and (not byte or bool(self.ask or self.search))
         if self.ask or self.search:
             self.typing = was if is_paste else "no"
             if self.typing != "spent":

@@ -1,10 +1,10 @@
-"""Makes sessions for check-recovery.sh by the plain model of editor.py: sessions.py FOLDER COUNT SEED.
+"""Makes sessions for check-recovery.sh by the plain model of editor.py: sessions.py FOLDER COUNT SEED. Prints a case for each (tests/play).
 
-The keys are random, and none of them depends on rows. Each session is a folder of FOLDER: `file` is the text; `keys1` are keys
-after which the last row is `row`; `keys2` are more keys; `ends` has, for each count of bytes that ends a key, the text in
-hexadecimal; `how` has the signal, its target, and the seconds after `keys2`. When `keys1` are recovered, the last row is `back`,
-and the keys `more` make the text `made`, which shows place, mark, selection, held text, undo history and its groups. The bytes
-`torn` begin a key; recovered with them, the letters `typed` make the text `kept` and the last row `seen`.
+The keys are random, and none of them depends on rows. After `keys1` the last row is `row`; `keys2` are more keys; `how` is a signal, its
+target, and the seconds after `keys2`. When `keys1` are recovered, the last row is `back`, and the keys `more` make the text `made`, which
+shows place, mark, selection, held text, undo history and its groups. The bytes `torn` begin a key; recovered with them, the letters `typed`
+make the text `kept` and the last row `seen`. Each session has a folder in FOLDER for judge.py, with `keys1`, `keys2`, and `ends`: for each
+count of bytes that ends a key the text then, in hexadecimal.
 """
 
 import os
@@ -106,6 +106,18 @@ class Session(Editor):
             self.key("save")
         self.insert(random.choice(LETTERS))
 
+    def key(self, name):
+        """A key. A paste that begins is shown at its end, and is told until then beside the row of its beginning."""
+        if name == "paste start" and not self.is_pasting():
+            self.before_paste = self.row()
+        super().key(name)
+
+    def is_pasting(self):
+        return self.typing in ("paste", "pasting", "spent")
+
+    def shown_row(self):
+        return f"{self.before_paste} pasting" if self.is_pasting() else self.row()
+
     def begin_paste(self):
         self.key("paste start")
         for _ in range(random.randint(0, 20)):
@@ -201,7 +213,7 @@ def files_of(number):
         recovered.insert(letter)
     files["typed"], files["kept"], files["seen"] = recovered.keys, recovered.text, recovered.row()
     recovered = session.recovered()
-    files["row"], files["back"] = session.row(), recovered.row()
+    files["row"], files["back"] = session.shown_row(), recovered.row()
     for name in random.choice([("insert", "put"), ("cut", "insert"), ("undo run", "insert"), ("insert", "undo run", "undo run"),
                                ("redo run", "insert")]):
         if name == "insert":
@@ -214,19 +226,79 @@ def files_of(number):
         session.press()
     files["keys1"], files["keys2"] = session.keys[:cut], session.keys[cut:]
     files["ends"] = "".join(f"{n} {text.encode().hex()}\n" for n, text in session.ends.items())
-    files["how"] = "%s %s %.3f\n" % (*WAYS[number % len(WAYS)], random.random() * 0.2)
+    files["how"] = *WAYS[number % len(WAYS)], random.random() * 0.2
     return files
 
 
+def quoted(data):
+    """Bytes or a text as a case has them. Keys are as the journal has them: what terminals send for back and forward are other bytes."""
+    if isinstance(data, bytes):
+        data = data.replace(b"\x02", b"\x1b[1;3D").replace(b"\x06", b"\x1b[1;3C")
+    data = data if isinstance(data, bytes) else data.encode()
+    return '"' + "".join(chr(byte) if 32 <= byte < 127 and byte not in b'"\\' else f"\\x{byte:02x}" for byte in data) + '"'
+
+
+def row_of(text):
+    """A row of a picture, in which some signs have a backslash."""
+    return re.sub(r"([|<>\\])", r"\\\1", text)
+
+
+# Steps of a case: a session that is killed and judged, and one that goes on, or is killed once more.
+KILLED = """
+case {name}: {signal} to {target}
+file text {file}
+start bidi-edit --no-joining text -> see "- 1:1"
+type {keys1} -> row last {row}
+{wait}type {keys2}
+rest {rest:.3f}
+kill {target} by {signal}
+ends
+| ...
+$ python3 -B "$TOP/tests/recovery/judge.py" {folder}
+"""
+RESUMED = """start bidi-edit --no-joining text -> see "[l]ater?"
+type "recover" Enter -> row last {back} recovered
+"""
+GOES_ON = RESUMED + """type {more} ^S ^Q
+ends 0
+| ...
+text is {made}
+sessions 0
+"""
+AGAIN = """$ printf '%b' '{torn_escapes}' >>"$SESSION/journal"
+""" + RESUMED + """type {typed} -> row last {seen}
+kill both
+ends
+| ...
+$ bidi-edit --recover --to again text
+again is {kept}
+"""
+
+
+def case_of(number, folder, files):
+    """A session as a case. Every fifth that may goes on, and is saved; two of five are killed again."""
+    signal, target, rest = files["how"]
+    words = {name: quoted(data) for name, data in files.items() if name not in ("how", "row", "back", "seen")}
+    words.update({name: row_of(files[name]) for name in ("row", "back", "seen")})
+    words["torn_escapes"] = "".join(f"\\0{byte:03o}" for byte in files["torn"])
+    # the letters of a paste are shown at its end
+    words["wait"] = f'$ python3 -B "$TOP/tests/recovery/judge.py" {folder} kept\n' if files["row"].endswith(" pasting") else ""
+    steps = KILLED
+    if not files["keys2"]:
+        steps += GOES_ON if number % 5 == 0 else AGAIN if number % 5 in (1, 3) else ""
+    return steps.format(name=f"{number:04}", signal=signal, target=target, rest=rest, folder=folder, **words)
+
+
 def main():
-    folder, count, seed = sys.argv[1], int(sys.argv[2]), int(sys.argv[3])
+    top, count, seed = sys.argv[1], int(sys.argv[2]), int(sys.argv[3])
     random.seed(seed)
     for number in range(count):
-        path = os.path.join(folder, f"{number:04}")
-        os.makedirs(path)
-        for name, data in files_of(number).items():
-            with open(os.path.join(path, name), "wb") as file:
-                file.write(data if isinstance(data, bytes) else data.encode())
+        folder, files = os.path.join(top, f"{number:04}"), files_of(number)
+        os.makedirs(folder)
+        for name in ("keys1", "keys2", "ends"):
+            with open(os.path.join(folder, name), "wb") as file:
+                file.write(files[name] if isinstance(files[name], bytes) else files[name].encode())
+        print(case_of(number, folder, files))
 
 
 main()

@@ -25,10 +25,6 @@ write_texts() {
 
 # All checks of one kind of terminal.
 check_terminal() { # KIND
-    if [ "$1" = variables ]; then
-        check_variables
-        return
-    fi
     if ! command -v "$(program_of "$1")" >/dev/null; then
         skip "$1" "there is no $(program_of "$1")"
         return

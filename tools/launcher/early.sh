@@ -5,7 +5,7 @@
 # shellcheck source=tools/launcher/names.sh
 . "$top/tools/launcher/names.sh"
 
-# The usage of host/words.c, with the line about printing.
+# The usage of host/command_line.c, with the line about printing.
 usage='usage: bidi-edit [--direction auto|ltr|rtl] [--line N | +N] [--tab N] [FILE | -]
        bidi-edit --recover [[--to OTHER] FILE] | --forget [--yes] [FILE]
        bidi-edit --print FILE [--cols N] [--marks]'

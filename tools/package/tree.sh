@@ -44,14 +44,20 @@ put() { # MODE SOURCE PATH
     chmod "$1" "$tree/$3"
 }
 
-# Puts the manual there, under both names, with the version and the commit's day in its first line.
-put_manual() {
-    mkdir -p -- "$tree/share/man/man1"
+# Puts a page of the manual there, with the version and the commit's day in its first line.
+put_page() { # NAME SECTION
+    mkdir -p -- "$tree/share/man/man$2"
     day=${seconds:+$(TZ=UTC0 date -d "@$seconds" +%Y-%m-%d)}
-    sed "1s/^\(.TH BIDI_EDIT 1\) \([^ ]*\) .*/\1 ${day:-\2} \"bidi_edit $version\" \"User commands\"/" "$top/docs/bidi_edit.1" >"$tree/share/man/man1/bidi_edit.1" ||
+    sed "1s/^\(.TH [A-Z_-]* $2\) \([^ ]*\) \"[^\"]*\"/\1 ${day:-\2} \"bidi_edit $version\"/" "$top/docs/$1.$2" >"$tree/share/man/man$2/$1.$2" ||
         refuse "the manual cannot be copied"
-    chmod 644 "$tree/share/man/man1/bidi_edit.1"
+    chmod 644 "$tree/share/man/man$2/$1.$2"
+}
+
+# Puts the manual there, its main page under both names.
+put_manual() {
+    put_page bidi_edit 1
     echo '.so man1/bidi_edit.1' >"$tree/share/man/man1/bidi-edit.1"
+    put_page bidi_edit-terminals 7
 }
 
 # Prints the toolchain's version, as it was noted when the programs were built.
