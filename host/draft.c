@@ -23,9 +23,10 @@
  * are written to FILE at a time. RIGHTS: the bits of a mode without the set-ID and sticky bits. */
 enum { TRIES = 20, LOCK_TRIES = 500, LOCK_MS = 10, PIECE = 65536, RIGHTS = 0777 };
 
+/* Where the file system has no locks, the save goes on without one. */
 enum cause lock_for_save(int file) {
     int error = lock_file(file, LOCK_TRIES, LOCK_MS);
-    return is_lacking(error) ? CAUSE_NONE : cause_of(error);
+    return is_unsupported(error) ? CAUSE_NONE : cause_of(error);
 }
 
 /* ---- the state that a save leaves */
@@ -64,12 +65,12 @@ static int rename_by(int folder, const char *from, const char *to, unsigned flag
 static int move_to_free(int folder, const char *from, const char *to) {
     struct file_stamp there;
     int error = rename_by(folder, from, to, RENAME_NOREPLACE);
-    if (!is_lacking(error)) return error;
+    if (!is_unsupported(error)) return error;
     if (linkat(folder, from, folder, to, 0) == 0) {
         unlinkat(folder, from, 0);
         return 0;
     }
-    if (errno != EPERM && !is_lacking(errno)) return errno;
+    if (errno != EPERM && !is_unsupported(errno)) return errno;
     if (!stamp_at(folder, to, &there)) return errno;
     if (there.is_there) return EEXIST;
     return renameat(folder, from, folder, to) == 0 ? 0 : errno;
@@ -143,7 +144,7 @@ static int open_own(struct save *save) {
 
 /* Removes an access list that a folder gave a new file. */
 static int remove_list(int file) {
-    return fremovexattr(file, "system.posix_acl_access") == 0 || errno == ENODATA || is_lacking(errno) ? 0 : errno;
+    return fremovexattr(file, "system.posix_acl_access") == 0 || errno == ENODATA || is_unsupported(errno) ? 0 : errno;
 }
 
 /* Gives the draft the owner, group and permissions of the file that it replaces, as far as the system permits. */
@@ -259,7 +260,7 @@ static enum cause exchange(struct save *save, const struct stat *own) {
     int error = draft->name[0] ? 0 : name_by_chance(draft, save->file, name_draft);
     if (error != 0) return cause_of(error);
     error = rename_by(draft->folder, draft->name, save->file->name, RENAME_EXCHANGE);
-    if (is_lacking(error)) return replace_by_rename(save);
+    if (is_unsupported(error)) return replace_by_rename(save);
     if (error == ENOENT) return create(save);
     if (error != 0) return refused_rename(save, error);
     bool is_right = came_out(save);

@@ -63,7 +63,7 @@ struct file {
     /* Of FILE, if it was there, and of its folder. */
     struct file_id id, folder_id;
     struct facts facts, folder_facts;
-    /* The absolute paths of FILE and of its folder, without links; whether the folder's path led to it at the opening. */
+    /* The absolute paths of FILE and of its folder, without links. `is_at_path`: at the opening, `folder_path` led to the folder. */
     char path[2 * PATH_MAX], folder_path[PATH_MAX];
     bool is_at_path;
     /* What messages call the folder. */

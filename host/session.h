@@ -220,9 +220,10 @@ struct found {
 };
 /* Whether the session opened or saved this very file, under any name. */
 bool session_is_of_file(const struct session *session, const struct target *target);
-/* Finds them in the folder of sessions (in any state). Removes sessions of FILE without unsaved text, and what killed starts left. Returns the
- * fault if the folder cannot be read. */
+/* Finds FILE's newest session of each kind. Removes sessions of FILE without unsaved text, and what killed starts left. Returns the fault if the
+ * folder of sessions cannot be read. */
 enum cause sessions_of(struct found *found, const struct sessions *sessions, const struct target *target);
+/* Closes the sessions that were found. */
 void found_close(struct found *found);
 
 /* A walk over the sessions in the folder, the oldest first. Each step closes the session of the step before, unless it was moved away. */

@@ -182,7 +182,7 @@ struct step {
     enum step_kind kind;
     uint64_t from, to;
     struct file_id id;
-    /* When FILE was changed last, before the step; for the first steps, the time of day. */
+    /* For READY, when FILE is not changed yet, the time of day. For the others, FILE's time of change before the step. */
     int64_t seconds;
     uint32_t nanos;
     /* Empty if unknown. */

@@ -183,7 +183,7 @@ char process_state(pid_t process) {
     return at && at[1] == ' ' && at[2] ? at[2] : 'Z';
 }
 
-bool is_lacking(int error) {
+bool is_unsupported(int error) {
     return error == ENOSYS || error == EINVAL || error == EOPNOTSUPP;
 }
 
@@ -198,7 +198,7 @@ int lock_file(int file, int tries, int milliseconds) {
 }
 
 int sync_file(int file) {
-    return fsync(file) == 0 || is_lacking(errno) ? 0 : errno;
+    return fsync(file) == 0 || is_unsupported(errno) ? 0 : errno;
 }
 
 bool make_letters(char *letters, size_t count, const char *alphabet) {

@@ -63,7 +63,7 @@ const char *next_entry(DIR *entries);
 char process_state(pid_t process);
 
 /* Whether a call failed because the system or the file system does not have it. */
-bool is_lacking(int error);
+bool is_unsupported(int error);
 
 /* Locks an open file. Tries so many times, and waits so long after each try. Returns 0, EWOULDBLOCK if another process had the lock all the
  * time, or an errno. */

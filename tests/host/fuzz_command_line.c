@@ -48,6 +48,7 @@ static void check_message(const char *text) {
         if (((unsigned char)*text < ' ' && *text != '\n') || *text == 127) abort();
 }
 
+/* A name in a message is one line, and a shell reads it as the name again. */
 static void check_name(const char *name) {
     char *word = shown(name);
     check_message(word);

@@ -276,7 +276,7 @@ def saved_and_renamed(check, place):
 
 
 def gone_folder(check, place):
-    """The working folder, with FILE in it, is removed. What is told at the end finds the session from elsewhere."""
+    """The working folder, with FILE in it, is removed. The command that is told at the end finds the session from another folder."""
     os.mkdir(f'{place.files}/one')
     place.put('one/a')
     editor = place.edit('a', folder=f'{place.files}/one').types(b'abc')

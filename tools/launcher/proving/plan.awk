@@ -43,13 +43,13 @@ function chain(name,    n, i, users, longest) {
     return chains[name] = seconds(name) + longest
 }
 
-# Counts in `depth[top]` the crates below `top`, of which those below `name` are not counted yet.
+# Adds the crates below `name` to `lower[top]`, the number of crates below `top`. Each counts once (`counted`).
 function count_below(top, name,    n, i, used) {
     n = split(below[name], used, " ")
     for (i = 1; i <= n; i++) {
         if ((top, used[i]) in counted) continue
         counted[top, used[i]] = 1
-        depth[top]++
+        lower[top]++
         count_below(top, used[i])
     }
 }
@@ -57,8 +57,8 @@ function count_below(top, name,    n, i, used) {
 # Returns the estimated seconds of a crate; for one that is built rt only looks whether something has changed.
 function seconds(name) {
     if (name in built) return 2
-    if (!(name in depth)) { depth[name] = 0; count_below(name, name) }
-    return int(15 + 4 * depth[name] + (0.12 + 0.008 * depth[name]) * lines[name])
+    if (!(name in lower)) { lower[name] = 0; count_below(name, name) }
+    return int(15 + 4 * lower[name] + (0.12 + 0.008 * lower[name]) * lines[name])
 }
 
 END {
